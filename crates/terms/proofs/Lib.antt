@@ -1,0 +1,3 @@
+pub mod Bits
+pub mod MaskLaws
+pub mod ScopeLaws

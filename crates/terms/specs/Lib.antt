@@ -1,0 +1,3 @@
+pub mod Masks
+pub mod Refusals
+pub mod Scopes
