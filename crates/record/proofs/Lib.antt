@@ -1,0 +1,4 @@
+pub mod Heads
+pub mod OpenLaws
+pub mod RecordLaws
+pub mod SoundLaws
