@@ -1,0 +1,4 @@
+pub mod Calls
+pub mod Closed
+pub mod Settle
+pub mod Valid
