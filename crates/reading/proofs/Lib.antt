@@ -1,0 +1,2 @@
+mod Gathers
+mod Headings

@@ -1,0 +1,4 @@
+mod Cuts
+mod Gathers
+mod Numerals
+mod Splits
