@@ -1,20 +1,19 @@
 -- A pair of lawful books is lawful, and its reasons are reasons. Assumes nothing.
-use mathlib.Core.Path.{_≡_, refl, sym, ap, _∙_, subst}
-use mathlib.Core.Bool.{Bool, true, false, not, _&&_}
+use mathlib.Core.Path.{_≡_, sym, ap, _∙_, subst}
+use mathlib.Core.Bool.{true, false, not, _&&_}
 use mathlib.Core.List.{List}
-use mathlib.Core.Logic.{_⊎_, inl, inr}
+use mathlib.Core.Logic.{inl, inr}
 use Prim.Native.Nat.{ℕ, _+_, _-_, min, _≤_, _<_}
 use native.Mathlib.Omega.{arith}
 use lib.Dec.{ltb}
-use lib.ListN.{length, getD}
-use Rattle.std.proofs.shelf.Tests.{false≢true, cases-bool, cases-lt, lt-ltb, le-ltb, ltb-true, ltb-false}
+use lib.ListN.{length}
+use Rattle.std.proofs.shelf.Tests.{false≢true, cases-lt, lt-ltb, le-ltb, ltb-true, ltb-false}
 use Rattle.terms.specs.Scopes.{questions-of}
-use Rattle.terms.specs.declared.scope.Scope.{Scope}
 use Rattle.books.specs.Plain.{Plain, Supported, Tied, Lawful, positions, no-scope}
 use Rattle.terms.specs.Masks.{within-each, less-each}
 use Rattle.books.specs.Reasons.{owed, no-reason, Explains, Reasonable}
 use Rattle.books.specs.Pair.{numbered, pair-model, pair-reasons}
-use Rattle.books.proofs.OwingLaws.{owed-parts, no-rule}
+use Rattle.books.proofs.OwingLaws.{owed-parts}
 
 -- the number of a rule
 

@@ -1,13 +1,13 @@
 -- What fitting questions are, and how the test goes along a list. Assumes nothing.
-use mathlib.Core.Path.{_≡_, refl, sym, ap, _∙_, subst}
+use mathlib.Core.Path.{_≡_, refl, sym, ap, _∙_}
 use mathlib.Core.Bool.{Bool, true, false, not, _&&_, _||_}
-use mathlib.Core.List.{List, [], _∷_, map}
+use mathlib.Core.List.{List, [], _∷_}
 use mathlib.Core.Logic.{_⊎_, inl, inr}
-use Prim.Native.Nat.{ℕ, zero, suc, _+_, min, _≤_, _<_}
+use Prim.Native.Nat.{ℕ, zero, suc, min, _≤_, _<_}
 use native.Mathlib.Omega.{arith}
 use native.Mathlib.Nat.{le-of-suc-le-suc, not-suc-le-zero}
 use lib.Dec.{ltb, leb, eqb}
-use lib.ListN.{length, getD, drop}
+use lib.ListN.{length, getD}
 use Rattle.std.specs.Options.{isSome}
 use Rattle.std.specs.declared.option.Option.{Option}
 use Rattle.std.specs.declared.option.Option.the-variants.{Some, None}
@@ -18,9 +18,9 @@ use Rattle.terms.specs.Scopes.{questions-of}
 use Rattle.terms.specs.declared.scope.Scope.{Scope}
 use Rattle.terms.specs.declared.refusal.Refusal.{Refusal}
 use Rattle.terms.specs.declared.refusal.Refusal.the-variants.{BadQuestions, TooManyRules}
-use Rattle.terms.proofs.MaskLaws.{has-with, has-none}
+use Rattle.terms.proofs.MaskLaws.{has-with}
 use Rattle.books.specs.Plain.{Tied}
-use Rattle.books.specs.Questions.{fresh, fits, misfit, first-of, too-many}
+use Rattle.books.specs.Questions.{fresh, fits, misfit, first-of, too-many, rules-fault}
 
 pub fresh-bad : (seen q : ℕ) (qs : List ℕ) → (16 ≤ q) ⊎ (has seen q ≡ true) → fresh seen (q ∷ qs) ≡ false
 unfolding fresh
@@ -86,20 +86,27 @@ unfolding too-many
 not-over n f h = ap (λ b. elim b as (λ _. Option Refusal) [ true ↦ f | false ↦ Some TooManyRules ]) (le-leb n 64 h)
 
 -- a list that is not refused has at most 64 rules, and no other fault
-pub few : (n : ℕ) (f : Option Refusal) → isSome (too-many n f) ≡ false → (n ≤ 64) × (isSome f ≡ false)
+few : (n : ℕ) (f : Option Refusal) → isSome (too-many n f) ≡ false → (n ≤ 64) × (isSome f ≡ false)
 few n f e = elim (cases-lt 64 n) [ inl l ↦ absurd (false≢true (sym e ∙ ap isSome (over n f l))) | inr l ↦ (l, ap isSome (sym (not-over n f l)) ∙ e) ]
 
 pub no-fault : (a b : Option Refusal) → isSome (first-of a b) ≡ false → (isSome a ≡ false) × (isSome b ≡ false)
 no-fault (Some x) b e = absurd (false≢true (sym e))
 no-fault None b e = (refl, e)
 
-pub all-fit : {R : Type 0} (ties : R → Scope) (least most r : ℕ) (xs : List R) → isSome (misfit ties least most r xs) ≡ false → All (λ x. fits least most (ties x) ≡ true) xs
+all-fit : {R : Type 0} (ties : R → Scope) (least most r : ℕ) (xs : List R) → isSome (misfit ties least most r xs) ≡ false → All (λ x. fits least most (ties x) ≡ true) xs
 all-fit ties least most r [] e = tt
 all-fit ties least most r (x ∷ xs) e =
     elim (cases-bool (fits least most (ties x))) [
       | inl f ↦ (f, all-fit ties least most (suc r) xs (ap isSome (sym (misfit-good ties least most r x xs f)) ∙ e))
       | inr f ↦ absurd (false≢true (sym e ∙ ap isSome (misfit-bad ties least most r x xs f)))
     ]
+
+-- rules that are not refused are at most 64, and the questions of each fit
+pub faultless : {R : Type 0} (ties : R → Scope) (least most : ℕ) (rules : List R) → isSome (rules-fault ties least most rules) ≡ false → (length rules ≤ 64) × All (λ x. fits least most (ties x) ≡ true) rules
+unfolding rules-fault
+faultless ties least most rules e =
+    let p = few (length rules) (misfit ties least most 0 rules) e in
+    (p .0, all-fit ties least most 0 rules (p .1))
 
 -- questions that fit are as many as they are counted, and none is there twice
 pub fits-parts : (least most : ℕ) (s : Scope) → fits least most s ≡ true → (least ≤ s .count) × (s .count ≤ min most 4) × (length (questions-of s) ≡ s .count) × (fresh 0 (questions-of s) ≡ true)

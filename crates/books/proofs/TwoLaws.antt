@@ -12,12 +12,12 @@ use lib.ListN.{length, getD}
 use Rattle.std.specs.shelf.Lists.{All}
 use Rattle.std.proofs.shelf.Elements.{all-getD}
 use Rattle.std.proofs.shelf.Lists.{getD-past}
-use Rattle.std.proofs.shelf.Tests.{and-parts, and-from, and-cases, or-cases, or-right, or-left, both-ways, cases-bool, cases-eq, cases-lt, lt-ltb, le-ltb, ltb-true, eq-eqb, ne-eqb, not-true, or-from, and-left, and-right}
-use Rattle.terms.specs.Masks.{has, with, less, less-each, within-each}
+use Rattle.std.proofs.shelf.Tests.{and-parts, and-from, or-cases, or-right, or-left, both-ways, cases-bool, cases-eq, cases-lt, lt-ltb, le-ltb, ltb-true, eq-eqb, ne-eqb, not-true, or-from, and-left, and-right}
+use Rattle.terms.specs.Masks.{has, with, less-each, within-each}
 use Rattle.terms.specs.Scopes.{questions-of}
 use Rattle.terms.specs.declared.scope.Scope.{Scope}
-use Rattle.terms.proofs.MaskLaws.{has-with, has-none, has-less, with-lt}
-use Rattle.books.specs.Plain.{Plain, Supported, Lawful, no-scope}
+use Rattle.terms.proofs.MaskLaws.{has-with, has-none, with-lt}
+use Rattle.books.specs.Plain.{Supported, Lawful, no-scope}
 use Rattle.books.specs.Questions.{fits}
 use Rattle.books.specs.Reasons.{owed, no-reason, Explains, Reasonable}
 use Rattle.books.specs.Twos.{some-below, kept-below, beside, opposite, two-model, two-reasons}

@@ -1,7 +1,7 @@
 -- What the questions of a rule must be, and what loading a book answers. Assumes nothing.
 use mathlib.Core.Bool.{Bool, true, false, _&&_, not}
 use mathlib.Core.List.{List, [], _∷_}
-use Prim.Native.Nat.{ℕ, zero, suc, min}
+use Prim.Native.Nat.{ℕ, suc, min}
 use lib.Dec.{ltb, leb, eqb}
 use lib.ListN.{length}
 use Rattle.std.specs.declared.option.Option.{Option}
@@ -38,6 +38,10 @@ first-of None fault = fault
 -- more than 64 rules, or else the first fault of another kind
 unfoldable pub too-many : ℕ → Option Refusal → Option Refusal
 too-many n fault = elim (leb n 64) [ true ↦ fault | false ↦ Some TooManyRules ]
+
+-- the first fault of rules that tie from least to most questions each, whatever else they say
+unfoldable pub rules-fault : {R : Type 0} → (R → Scope) → ℕ → ℕ → List R → Option Refusal
+rules-fault ties least most rules = too-many (length rules) (misfit ties least most 0 rules)
 
 -- what is answered: the fault where there is one
 abbrev pub answered : {X : Type 0} → Option Refusal → X → Result X Refusal

@@ -1,9 +1,5 @@
-// Rule books: what a book is, and the four that are built.
+// What a book of rules is, what the books of every kind share, and two books as one.
 pub mod book;
-pub mod differ;
-pub mod gap;
-mod owing;
+pub mod owing;
 pub mod pair;
-mod questions;
-mod rows;
-pub mod table;
+pub mod questions;

@@ -6,8 +6,8 @@ ghost use Rattle.books.specs.Pair.{pair-fault, pair-model, pair-reasons};
 ghost use Rattle.terms.specs.Refusals.{told};
 use crate::book::Book;
 use crate::book::ReasoningBook;
-use crate::questions::NO_SCOPE;
 use terms::refusal::Refusal;
+use terms::scope::NO_SCOPE;
 use terms::scope::Scope;
 
 // Of two books of any kind, pairs too, both lent. Every pair that `new` makes has all the rules of the two;

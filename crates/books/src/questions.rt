@@ -3,18 +3,12 @@ ghost use mathlib.Core.Path.{_≡_};
 ghost use Prim.Native.Nat.{ℕ, _≤_};
 ghost use lib.ListN.{length};
 ghost use denote.Ref.{now};
-ghost use Rattle.books.specs.Questions.{fresh, fits, misfit};
+ghost use Rattle.books.specs.Questions.{fresh, fits, misfit, rules-fault};
 ghost use Rattle.terms.specs.declared.scope.Scope.{Scope};
 use terms::masks::has;
 use terms::masks::with;
 use terms::refusal::Refusal;
 use terms::scope::Scope;
-
-// What a book answers for a rule that it lacks.
-pub const NO_SCOPE: Scope = Scope {
-    count: 0,
-    questions: [0; 4],
-};
 
 // A rule as it is handed in.
 pub trait Ties {
@@ -47,7 +41,7 @@ fn fresh(questions: &[u8]) -> bool
 }
 
 // Whether a rule that ties from `least` to `most` questions may tie these.
-pub fn fits(scope: Scope, least: u8, most: u8) -> bool
+fn fits(scope: Scope, least: u8, most: u8) -> bool
     ensures { λ r. ⌜ r ≡ fits least most scope ⌝ }
 {
     let count = scope.count;
@@ -60,7 +54,7 @@ pub fn fits(scope: Scope, least: u8, most: u8) -> bool
 }
 
 // The refusal of the lowest rule whose questions do not fit.
-pub fn misfit<R: Ties>(rules: &[R], least: u8, most: u8) -> Option<Refusal>
+fn misfit<R: Ties>(rules: &[R], least: u8, most: u8) -> Option<Refusal>
     requires { ⌜ length (now rules) ≤ 64 ⌝ }
     ensures { λ r. ⌜ r ≡ misfit ties least most 0 (now (rules .entry)) ⌝ }
 {
@@ -70,4 +64,14 @@ pub fn misfit<R: Ties>(rules: &[R], least: u8, most: u8) -> Option<Refusal>
         }
     }
     None
+}
+
+// The first fault of rules that tie from `least` to `most` questions each: more than 64 of them, or questions that do not fit.
+pub fn rules_fault<R: Ties>(rules: &[R], least: u8, most: u8) -> Option<Refusal>
+    ensures { λ r. ⌜ r ≡ rules-fault ties least most (now (rules .entry)) ⌝ }
+{
+    if rules.len() > 64 {
+        return Some(Refusal::TooManyRules);
+    }
+    misfit(rules, least, most)
 }

@@ -9,10 +9,13 @@ ghost use lib.ListN.{length};
 use crate::docket::Docket;
 use crate::problem::on_sheet;
 use crate::state::Record;
+use terms::line::BLANK;
+use terms::line::LOG_LINES;
 use terms::line::Line;
 use terms::masks;
 use terms::refusal::Refusal;
 use terms::scope;
+use terms::scope::NO_SCOPE;
 use terms::scope::Scope;
 
 impl Record {
@@ -23,18 +26,9 @@ impl Record {
     {
         Ok(Record {
             docket: Docket::unpicked(sizes)?,
-            scopes: [Scope {
-                count: 0,
-                questions: [0; 4],
-            }; 64],
+            scopes: [NO_SCOPE; 64],
             crossed: [0; 16],
-            log: [Line {
-                kind: 0,
-                rule: 0,
-                question: 0,
-                option: 0,
-                reason: [0; 4],
-            }; 512],
+            log: [BLANK; LOG_LINES],
             lines: 0,
         })
     }

@@ -10,6 +10,7 @@ ghost use Rattle.record.specs.View.{view};
 use crate::docket::Docket;
 use crate::state::Record;
 use terms::masks;
+use terms::scope::NO_SCOPE;
 use terms::scope::Scope;
 
 impl Docket {
@@ -66,10 +67,7 @@ impl Record {
         if rule < 64 {
             self.scopes[rule as usize]
         } else {
-            Scope {
-                count: 0,
-                questions: [0; 4],
-            }
+            NO_SCOPE
         }
     }
 

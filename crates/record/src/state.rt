@@ -4,6 +4,7 @@ ghost use lib.ListN.{length, take};
 ghost use Rattle.record.specs.State.{total};
 ghost use Rattle.record.specs.Sound.{Heads, Declared, Once, Backed};
 use crate::docket::Docket;
+use terms::line::LOG_LINES;
 use terms::line::Line;
 use terms::scope::Scope;
 
@@ -15,7 +16,7 @@ pub struct Record {
     pub(crate) docket: Docket,
     pub(crate) scopes: [Scope; 64],
     pub(crate) crossed: [u32; 16],
-    pub(crate) log: [Line; 512],
+    pub(crate) log: [Line; LOG_LINES],
     pub(crate) lines: usize,
     ghost rules: { length scopes ≡ 64 },
     ghost questions: { length crossed ≡ 16 },

@@ -19,3 +19,15 @@ pub struct Line {
     pub option: u8,
     pub reason: [u32; 4],
 }
+
+// What a place holds that no line was written to.
+pub const BLANK: Line = Line {
+    kind: 0,
+    rule: 0,
+    question: 0,
+    option: 0,
+    reason: [0; 4],
+};
+
+// A sheet's log has no more lines than options that can be crossed, 16 times 32.
+pub const LOG_LINES: usize = 512;

@@ -9,6 +9,12 @@ pub struct Scope {
     pub questions: [u8; 4],
 }
 
+// The questions of a rule that is not there.
+pub const NO_SCOPE: Scope = Scope {
+    count: 0,
+    questions: [0; 4],
+};
+
 // The mask of the question at a position; nothing past the last position, or off the sheet.
 pub fn mask_at(masks: [u32; 16], scope: Scope, position: usize) -> u32
     ensures { λ r. ⌜ r ≡ mask-at masks scope position ⌝ }

@@ -1,5 +1,5 @@
 use mathlib.Core.Path.{_≡_, sym, ap, _∙_}
-use mathlib.Core.Bool.{true, _&&_}
+use mathlib.Core.Bool.{_&&_}
 use mathlib.Core.Logic.{inl, inr}
 use Prim.Native.Nat.{min, _<_, _≤_}
 use native.Mathlib.Omega.{arith}

@@ -1,8 +1,8 @@
-use mathlib.Core.Path.{_≡_, refl, sym, ap, _∙_}
+use mathlib.Core.Path.{refl, sym, ap, _∙_}
 use mathlib.Core.List.{_∷_}
-use Prim.Native.Nat.{suc, _+_}
+use Prim.Native.Nat.{_+_}
 use native.Mathlib.Numerals.{add-one}
-use lib.ListN.{getD, drop}
+use lib.ListN.{drop}
 use Rattle.std.proofs.shelf.Lists.{at-drop-more, at-drop-all}
 use Rattle.books.specs.Questions.{fits, misfit}
 use Rattle.books.proofs.QuestionLaws.{misfit-bad, misfit-good, misfit-none}

@@ -1,4 +1,3 @@
-use mathlib.Core.Path.{_≡_, _∙_}
 use native.Mathlib.Omega.{arith}
 use Rattle.books.specs.Pair.{pair-model}
 use Rattle.books.proofs.pair.PairRules.rules.Needs as need

@@ -1,0 +1,2 @@
+mod DifferLaws
+mod Samples

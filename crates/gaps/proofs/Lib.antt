@@ -1,0 +1,2 @@
+mod GapLaws
+mod Samples

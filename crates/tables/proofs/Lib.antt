@@ -1,0 +1,4 @@
+mod NoteLaws
+mod RowLaws
+mod Samples
+mod TableLaws
