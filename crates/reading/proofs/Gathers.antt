@@ -1,37 +1,38 @@
 -- The numbers of a list of words, one word at a time.
-use mathlib.Core.Path.{_≡_, refl, sym, _∙_, ap}
+use mathlib.Core.Path.{_≡_, sym, _∙_, ap}
 use mathlib.Core.List.{List, [], _∷_, _++_}
 use Prim.Native.Nat.{ℕ, suc, _+_, _<_, _≤_}
 use native.Mathlib.Numerals.{add-one}
 use denote.Ref.{RefT}
 use lib.ListN.{length, getD, drop, drop-of-length-le}
 use lib.Seq.{drop-cons}
-use Rattle.std.specs.declared.option.Option.the-variants.{None, Some}
-use lib.IntN.{ℤ}
-use native.Mathlib.Omega.{arith}
-use Rattle.std.specs.declared.option.Option.{Option}
-use Rattle.wording.specs.Figures.{byte-of, distance-of, if-some}
-use Rattle.reading.specs.declared.command.Command.{Command}
-use Rattle.reading.specs.declared.command.Command.the-variants.{Gap}
-use Rattle.reading.specs.Commands.{bytes-after, gap-of}
+use Rattle.std.specs.declared.result.Result.{Result}
+use Rattle.std.specs.declared.result.Result.the-variants.{Ok, Err}
+use Rattle.lines.specs.Marks.{texts}
+use Rattle.reading.specs.Commands.{bytes-after, if-right, number-of}
+use Rattle.reading.specs.Plain.{Mistake}
 
-pub one-byte : (ns : List ℕ) (ws : List (RefT (List ℕ))) (i : ℕ) (d : RefT (List ℕ)) (n : ℕ) → i < length ws
-    → byte-of (getD ws i d .now) ≡ Some n → bytes-after ns (drop i ws) ≡ bytes-after (ns ++ n ∷ []) (drop (i + 1) ws)
+abbrev Words : Type 0
+Words = List (RefT (List ℕ))
+
+-- of what is left of the words
+abbrev pub left-of : List ℕ → Words → ℕ → Result (List ℕ) Mistake
+left-of ns ws i = bytes-after ns (texts (drop i ws))
+
+abbrev bytes-by : List ℕ → List (List ℕ) → Result ℕ Mistake → Result (List ℕ) Mistake
+bytes-by ns ws r = if-right r (λ n. bytes-after (ns ++ n ∷ []) ws)
+
+next : (ns : List ℕ) (ws : Words) (i : ℕ) (d : RefT (List ℕ)) → i < length ws → left-of ns ws i ≡ bytes-by ns (texts (drop (suc i) ws)) (number-of (getD ws i d .now))
 unfolding bytes-after
-one-byte ns ws i d n h e = rw (drop-cons ws i d h, add-one) (ap (λ o. if-some o (λ m. bytes-after (ns ++ m ∷ []) (drop (suc i) ws))) e)
+next ns ws i d h = ap (λ (l : Words). bytes-after ns (texts l)) (drop-cons ws i d h)
 
-pub no-more : (ns : List ℕ) (ws : List (RefT (List ℕ))) (i : ℕ) → length ws ≤ i → bytes-after ns (drop i ws) ≡ Some ns
+pub no-byte : (ns : List ℕ) (ws : Words) (i : ℕ) (d : RefT (List ℕ)) (m : Mistake) → i < length ws → Err m ≡ number-of (getD ws i d .now) → Err m ≡ left-of ns ws i
+no-byte ns ws i d m h e = ap (bytes-by ns (texts (drop (suc i) ws))) e ∙ sym (next ns ws i d h)
+
+pub one-byte : (ns : List ℕ) (ws : Words) (i : ℕ) (d : RefT (List ℕ)) (n : ℕ) → i < length ws → Ok n ≡ number-of (getD ws i d .now)
+    → left-of (ns ++ n ∷ []) ws (i + 1) ≡ left-of ns ws i
+one-byte ns ws i d n h e = ap (left-of (ns ++ n ∷ []) ws) (add-one i) ∙ ap (bytes-by ns (texts (drop (suc i) ws))) e ∙ sym (next ns ws i d h)
+
+pub no-more : (ns : List ℕ) (ws : Words) (i : ℕ) → length ws ≤ i → Ok ns ≡ left-of ns ws i
 unfolding bytes-after
-no-more ns ws i h = rw (drop-of-length-le ws h)
-
--- what a gap is made of, where there are three words
-abbrev pub gap-made : Option ℕ → Option ℕ → Option ℤ → Option Command
-gap-made a b k = if-some a (λ low. if-some b (λ high. if-some k (λ distance. Some (Gap (record { count = 2; questions = low ∷ high ∷ 0 ∷ 0 ∷ [] }) distance))))
-
-pub gap-three : (ws : List (RefT (List ℕ))) (d e f : RefT (List ℕ)) (a b : Option ℕ) (k : Option ℤ) → length ws ≡ 3
-    → byte-of (getD ws 0 d .now) ≡ a → byte-of (getD ws 1 e .now) ≡ b → distance-of (getD ws 2 f .now) ≡ k → gap-of ws ≡ gap-made a b k
-gap-three [] d e f a b k h p q r = absurd (omega arith)
-gap-three (x ∷ []) d e f a b k h p q r = absurd (omega arith)
-gap-three (x ∷ y ∷ []) d e f a b k h p q r = absurd (omega arith)
-gap-three (x ∷ y ∷ z ∷ []) d e f a b k h p q r = λ i. gap-made (p i) (q i) (r i)
-gap-three (x ∷ y ∷ z ∷ w ∷ ws) d e f a b k h p q r = absurd (omega arith)
+no-more ns ws i h = sym (ap (λ (l : Words). bytes-after ns (texts l)) (drop-of-length-le ws h))

@@ -1,49 +1,41 @@
--- A line that is read as a fault.
+-- The first word, those that follow it, and what they are heard as.
 use mathlib.Core.Path.{_≡_, refl, sym, _∙_, ap}
 use mathlib.Core.List.{List, [], _∷_}
-use mathlib.Core.Logic.{_⊎_, inl, inr}
-use Prim.Native.Nat.{ℕ, _<_}
+use Prim.Native.Nat.{ℕ, _<_, _≤_, _-_}
 use native.Mathlib.Omega.{arith}
 use denote.Ref.{RefT}
-use lib.ListN.{length, getD, drop}
+use lib.ListN.{length, getD, take, drop}
+use Rattle.std.proofs.shelf.Lists.{take-all}
 use Rattle.std.specs.declared.option.Option.{Option}
-use Rattle.std.specs.declared.option.Option.the-variants.{None, Some}
-use Rattle.std.specs.declared.result.Result.the-variants.{Err}
-use Rattle.std.specs.Options.{Cases}
 use Rattle.wording.specs.declared.verb.Verb.{Verb}
-use Rattle.wording.specs.declared.verb.Verb.the-variants as verb
-use Rattle.wording.specs.Names.{name-of}
-use Rattle.reading.specs.declared.fault.Fault.{Fault as FaultT}
-use Rattle.reading.specs.declared.parse.Reading.the-variants.{Fault}
-use Rattle.reading.specs.Commands.{Says}
-use Rattle.reading.specs.Readings.{ReadAs}
+use Rattle.lines.specs.Marks.{texts, words-of}
+use Rattle.wording.specs.Names.{verb-of}
+use Rattle.reading.specs.Readings.{first-of, heard-named, heard-of, heard-words}
 
--- that nothing was said does not hang on why
-said-none : {E : Type 0} (v : Verb) (ws : List (RefT (List ℕ))) (e : E) → Says v ws (Err e) → Says {E = Unit {0}} v ws (Err tt)
-said-none verb.Table ws e h = h
-said-none verb.Gap ws e h = h
-said-none verb.Differ ws e h = h
-said-none verb.Open ws e h = h
-said-none verb.Place ws e h = h
-said-none verb.Pick ws e h = h
-said-none verb.Settle ws e h = h
-said-none verb.Standing ws e h = h
-said-none verb.Overview ws e h = h
+abbrev Words : Type 0
+Words = List (RefT (List ℕ))
 
-pub at-none : {X : Type 0} (o : Option X) (P : Type 0) (Q : X → Type 0) → ((x : X) → o ≡ Some x → ⊥) → Cases o P Q → P
-at-none None P Q none h = h
-at-none (Some x) P Q none h = absurd (none x refl)
+pub no-first : (ws : Words) → length ws ≡ 0 → [] ≡ first-of (texts ws)
+no-first [] h = refl
+no-first (w ∷ ws) h = absurd (omega arith)
 
-pub unnamed : (ws slice : List (RefT (List ℕ))) (name : RefT (List ℕ)) (f : FaultT) → slice ≡ ws
-    → (0 < length slice → name ≡ getD slice 0 name) → ((v : Verb) → name .now ≡ name-of v → ⊥) → ReadAs ws (Fault f)
-unnamed [] slice name f e first none = tt
-unnamed (w ∷ ws) slice name f e first none =
-    inl (λ v h. none v (ap (λ (x : RefT (List ℕ)). x .now) (first (omega (arith, ap length e)) ∙ ap (λ (l : List (RefT (List ℕ))). getD l 0 name) e) ∙ h))
+pub no-rest : (ws : Words) → length ws ≡ 0 → texts ws ≡ drop 1 (texts ws)
+no-rest [] h = refl
+no-rest (w ∷ ws) h = absurd (omega arith)
 
-pub unsaid : {E : Type 0} (ws slice rest : List (RefT (List ℕ))) (name : RefT (List ℕ)) (f : FaultT) (v : Verb) (why : E) → slice ≡ ws
-    → (0 < length slice → name ≡ getD slice 0 name) → rest ≡ drop 1 slice → name .now ≡ name-of v → Says v rest (Err why) → ReadAs ws (Fault f)
-unsaid [] slice rest name f v why e first r named h = tt
-unsaid (w ∷ ws) slice rest name f v why e first r named h =
-    let same : name ≡ w = first (omega (arith, ap length e)) ∙ ap (λ (l : List (RefT (List ℕ))). getD l 0 name) e in
-    let tail : rest ≡ ws = r ∙ ap (drop 1) e in
-    inr (v, sym (ap (λ (x : RefT (List ℕ)). x .now) same) ∙ named, rw tail at (said-none v rest why h))
+pub the-first : (ws : Words) (d : RefT (List ℕ)) → 0 < length ws → getD ws 0 d .now ≡ first-of (texts ws)
+the-first [] d h = absurd (omega arith)
+the-first (w ∷ ws) d h = refl
+
+pub the-rest : (ws : Words) → 0 < length ws → texts (take (length ws - 1) (drop 1 ws)) ≡ drop 1 (texts ws)
+the-rest [] h = absurd (omega arith)
+the-rest (w ∷ ws) h =
+    let all : length ws ≤ length (w ∷ ws) - 1 = omega arith in
+    ap texts (take-all (length (w ∷ ws) - 1) ws all)
+
+-- the slice holds the words of the line, and r is what the first names
+pub heard-by : (line name : List ℕ) (slice items : Words) (rest : List (List ℕ)) (r o : Option Verb) → slice ≡ items → texts items ≡ words-of line
+    → name ≡ first-of (texts slice) → rest ≡ drop 1 (texts slice) → r ≡ verb-of name → r ≡ o → heard-named name o line rest ≡ heard-of line
+unfolding heard-of
+heard-by line name slice items rest r o is read first after named e =
+    ap (λ (v : Option Verb). heard-named name v line rest) (sym e ∙ named) ∙ (λ i. heard-named (first i) (verb-of (first i)) line (after i)) ∙ ap (heard-words line) (ap texts is ∙ read)

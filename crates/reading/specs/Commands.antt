@@ -1,24 +1,21 @@
--- What a verb and its numbers say. Assumes nothing.
-use mathlib.Core.Path.{_≡_}
+-- What a verb and the words after it say, or the first mistake in them. Assumes nothing.
 use mathlib.Core.Bool.{cond}
 use mathlib.Core.List.{List, [], _∷_, _++_}
 use Prim.Native.Nat.{ℕ}
-use denote.Ref.{RefT}
 use lib.Dec.{eqb}
 use lib.IntN.{ℤ}
 use lib.ListN.{getD}
 use Rattle.std.specs.declared.option.Option.{Option}
 use Rattle.std.specs.declared.option.Option.the-variants.{None, Some}
+use Rattle.std.specs.declared.result.Result.{Result}
+use Rattle.std.specs.declared.result.Result.the-variants.{Ok, Err}
 use Rattle.wording.specs.declared.numbers.Numbers.{Numbers}
 use Rattle.wording.specs.declared.verb.Verb.{Verb}
 use Rattle.wording.specs.declared.verb.Verb.the-variants as verb
-use Rattle.wording.specs.Figures.{byte-of, distance-of, if-some, no-numbers, numbers-after}
-use Rattle.std.specs.declared.result.Result.{Result}
-use Rattle.std.specs.Of.Vec.{vec-items}
-use Rattle.std.specs.Results.{okPart}
-use Rattle.std.specs.Vec.{made}
+use Rattle.wording.specs.Figures.{both, byte-of, distance-of, no-numbers, numbers-after}
 use Rattle.reading.specs.declared.command.Command.{Command}
-use Rattle.reading.specs.declared.command.Command.the-variants.{Table, Gap, Differ, Open, Place, Pick, Settle, Standing, Overview}
+use Rattle.reading.specs.declared.command.Command.the-variants.{Differ, Place, Pick, Settle, Standing, Overview}
+use Rattle.reading.specs.Plain.{Said, gap, opens, said, Mistake, no-byte, no-distance, word-count}
 
 -- the number at a place
 abbrev pub at : Numbers → ℕ → ℕ
@@ -39,45 +36,43 @@ command-of verb.Settle ns = if-count 0 ns Settle
 command-of verb.Standing ns = if-count 1 ns (Standing (at ns 0))
 command-of verb.Overview ns = if-count 0 ns Overview
 
+-- a value, or the mistake that there is none
+abbrev pub or-wrong : {X : Type 0} → Mistake → Option X → Result X Mistake
+or-wrong m None = Err m
+or-wrong m (Some x) = Ok x
+
+-- what follows from a value, or the mistake in place of it
+abbrev pub if-right : {X Y : Type 0} → Result X Mistake → (X → Result Y Mistake) → Result Y Mistake
+if-right (Ok x) f = f x
+if-right (Err m) f = Err m
+
+abbrev pub number-of : List ℕ → Result ℕ Mistake
+number-of w = or-wrong (no-byte w) (byte-of w)
+
+abbrev pub signed-of : List ℕ → Result ℤ Mistake
+signed-of w = or-wrong (no-distance w) (distance-of w)
+
+abbrev pub numbers-of : List (List ℕ) → Result Numbers Mistake
+numbers-of ws = both (λ ns. ns) no-byte (numbers-after no-numbers ws)
+
+-- a verb that only numbers follow
+abbrev pub simple-of : Verb → List (List ℕ) → Result Said Mistake
+simple-of v ws = if-right (numbers-of ws) (λ ns. both said (λ m. m) (or-wrong word-count (command-of v ns)))
+
 -- a gap: two questions and a distance, and nothing else
-abbrev pub gap-of : List (RefT (List ℕ)) → Option Command
-gap-of [] = None
-gap-of (a ∷ []) = None
-gap-of (a ∷ b ∷ []) = None
+abbrev pub gap-of : List (List ℕ) → Result Said Mistake
+gap-of [] = Err word-count
+gap-of (a ∷ []) = Err word-count
+gap-of (a ∷ b ∷ []) = Err word-count
 gap-of (a ∷ b ∷ k ∷ []) =
-    if-some (byte-of (a .now)) (λ low. if-some (byte-of (b .now)) (λ high. if-some (distance-of (k .now)) (λ distance.
-    Some (Gap (record { count = 2; questions = low ∷ high ∷ 0 ∷ 0 ∷ [] }) distance))))
-gap-of (a ∷ b ∷ k ∷ w ∷ ws) = None
+    if-right (number-of a) (λ low. if-right (number-of b) (λ high. if-right (signed-of k) (λ distance.
+    Ok (gap (record { count = 2; questions = low ∷ high ∷ 0 ∷ 0 ∷ [] }) distance))))
+gap-of (a ∷ b ∷ k ∷ w ∷ ws) = Err word-count
 
--- the numbers of the words, after those so far; nothing where a word is no number
-unfoldable pub bytes-after : List ℕ → List (RefT (List ℕ)) → Option (List ℕ)
-bytes-after ns [] = Some ns
-bytes-after ns (w ∷ ws) = if-some (byte-of (w .now)) (λ n. bytes-after (ns ++ n ∷ []) ws)
+-- the numbers of the words, after those so far
+unfoldable pub bytes-after : List ℕ → List (List ℕ) → Result (List ℕ) Mistake
+bytes-after ns [] = Ok ns
+bytes-after ns (w ∷ ws) = if-right (number-of w) (λ n. bytes-after (ns ++ n ∷ []) ws)
 
--- the sizes in a command that opens a sheet
-abbrev pub sizes-in : Command → Option (List ℕ)
-sizes-in (Table scope rows) = None
-sizes-in (Gap scope distance) = None
-sizes-in (Differ scope) = None
-sizes-in (Open sizes) = Some (vec-items sizes)
-sizes-in (Place rule) = None
-sizes-in (Pick question option) = None
-sizes-in Settle = None
-sizes-in (Standing question) = None
-sizes-in Overview = None
-
--- the command that numbers alone make
-abbrev pub simple-of : Verb → List (RefT (List ℕ)) → Option Command
-simple-of v ws = if-some (numbers-after no-numbers ws) (command-of v)
-
--- what the words after the verb make, in each case but that of a table, which is read from its text
-abbrev pub Says : {E : Type 0} → Verb → List (RefT (List ℕ)) → Result Command E → Type 0
-Says verb.Table ws r = Unit {0}
-Says verb.Gap ws r = okPart r ≡ gap-of ws
-Says verb.Differ ws r = okPart r ≡ simple-of verb.Differ ws
-Says verb.Open ws r = made r (λ c. sizes-in c ≡ bytes-after [] ws)
-Says verb.Place ws r = okPart r ≡ simple-of verb.Place ws
-Says verb.Pick ws r = okPart r ≡ simple-of verb.Pick ws
-Says verb.Settle ws r = okPart r ≡ simple-of verb.Settle ws
-Says verb.Standing ws r = okPart r ≡ simple-of verb.Standing ws
-Says verb.Overview ws r = okPart r ≡ simple-of verb.Overview ws
+abbrev pub open-of : List (List ℕ) → Result Said Mistake
+open-of ws = both opens (λ m. m) (bytes-after [] ws)

@@ -1,2 +1,5 @@
+pub mod Plain
 pub mod Commands
+pub mod Tables
 pub mod Readings
+pub mod Faults

@@ -1,4 +1,9 @@
 // Why a line cannot be read.
+ghost use mathlib.Core.Path.{_≡_};
+ghost use Rattle.std.specs.declared.option.Option.the-variants.{Some};
+ghost use Rattle.reading.specs.declared.fault.Unread.the-variants.{Wrong as Amiss, Memory as Spent};
+ghost use Rattle.reading.specs.Faults.{fault-text, mistake-text};
+ghost use Rattle.reading.specs.Plain.{mistake};
 use std::alloc::AllocError;
 use std::alloc::Refused;
 use std::fmt;
@@ -15,6 +20,8 @@ pub enum Wrong<'a> {
 }
 
 pub impl<'a> fmt::Display for Wrong<'a> as WrongDisplay {
+    ghost shown = { λ x. Some (mistake-text (mistake x)) };
+
     fn fmt<W: fmt::Write>(&self, f: &mut fmt::Formatter<W>) -> fmt::Result {
         match self {
             Wrong::NoSuchCommand(word) => write!(f, "'{word}' is no command"),
@@ -35,6 +42,8 @@ pub struct Fault<'a> {
 }
 
 pub impl<'a> fmt::Display for Fault<'a> as FaultDisplay {
+    ghost shown = { λ x. Some (fault-text (mistake (x .wrong)) (x .expected .now)) };
+
     fn fmt<W: fmt::Write>(&self, f: &mut fmt::Formatter<W>) -> fmt::Result {
         let wrong = self.wrong;
         let expected = self.expected;
@@ -50,18 +59,24 @@ pub enum Unread<'a> {
 }
 
 pub impl<'a> From<Wrong<'a>> for Unread<'a> as UnreadFromWrong {
+    ghost converts = { λ w r. r ≡ Amiss w };
+
     fn from(wrong: Wrong<'a>) -> Unread<'a> {
         Unread::Wrong(wrong)
     }
 }
 
 pub impl<'a> From<AllocError> for Unread<'a> as UnreadFromAlloc {
+    ghost converts = { λ _ r. r ≡ Spent };
+
     fn from(_e: AllocError) -> Unread<'a> {
         Unread::Memory
     }
 }
 
 pub impl<'a, T: Drop> From<Refused<T>> for Unread<'a> as UnreadFromRefused {
+    ghost converts = { λ _ r. r ≡ Spent };
+
     fn from(_e: Refused<T>) -> Unread<'a> {
         Unread::Memory
     }

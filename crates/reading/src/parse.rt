@@ -1,15 +1,15 @@
 // From the text of a line to its command.
 ghost use mathlib.Core.Path.{_≡_};
 ghost use mathlib.Core.List.{[]};
-ghost use Prim.Native.Nat.{_<_};
-ghost use lib.ListN.{length, getD, drop};
-ghost use Rattle.std.specs.declared.option.Option.the-variants.{Some};
+ghost use lib.ListN.{drop};
 ghost use Rattle.std.specs.Of.Vec.{vec-items};
-ghost use Rattle.std.specs.Results.{okPart};
 ghost use Rattle.std.specs.Vec.{made};
-ghost use Rattle.wording.specs.Figures.{byte-of, distance-of, no-numbers, numbers-after};
-ghost use Rattle.reading.specs.Readings.{LineReads};
-ghost use Rattle.reading.specs.Commands.{gap-of, bytes-after, simple-of, Says};
+ghost use Rattle.wording.specs.Figures.{both};
+ghost use Rattle.lines.specs.Marks.{texts};
+ghost use Rattle.reading.specs.Commands.{bytes-after, gap-of, number-of, numbers-of, signed-of, simple-of};
+ghost use Rattle.reading.specs.Plain.{Comes, heard, mistake, said};
+ghost use Rattle.reading.specs.Readings.{first-of, heard-of, said-by};
+ghost use Rattle.reading.specs.Tables.{row-of, rows-of, table-of};
 use crate::command::Command;
 use crate::command::with_numbers;
 use crate::fault::Fault;
@@ -18,15 +18,15 @@ use crate::fault::UnreadFromAlloc;
 use crate::fault::UnreadFromRefused;
 use crate::fault::UnreadFromWrong;
 use crate::fault::Wrong;
+use lines::words::words;
 use std::alloc::AllocError;
 use std::alloc::Global;
 use terms::scope::Scope;
 use wording::numbers::Numbers;
 use wording::numbers::byte;
 use wording::numbers::distance;
-use wording::verb::VERBS;
 use wording::verb::Verb;
-use wording::words::words;
+use wording::verb::verbs;
 
 #[derive(Drop)]
 pub enum Reading<'a> {
@@ -36,7 +36,7 @@ pub enum Reading<'a> {
 
 // What the line says, or why it cannot be read.
 pub fn read<'a>(heap: Global, line: &'a str) -> Result<Reading<'a>, AllocError>
-    ensures { λ r. ⌜ made r (λ reading. LineReads (now (line .entry)) reading) ⌝ }
+    ensures { λ r. ⌜ made r (λ reading. heard reading ≡ heard-of (now (line .entry))) ⌝ }
 {
     let words = words(heap, line)?;
     let (name, rest) = headed(words.as_slice());
@@ -44,7 +44,7 @@ pub fn read<'a>(heap: Global, line: &'a str) -> Result<Reading<'a>, AllocError>
         let wrong = Wrong::NoSuchCommand(name);
         return Ok(Reading::Fault(Fault {
             wrong,
-            expected: VERBS,
+            expected: verbs(),
         }));
     };
     match command(heap, verb, line, rest) {
@@ -59,8 +59,8 @@ pub fn read<'a>(heap: Global, line: &'a str) -> Result<Reading<'a>, AllocError>
 
 // The first word, and those that follow it.
 fn headed<'w, 'a>(words: &'w [&'a str]) -> (&'a str, &'w [&'a str])
-    ensures first { λ r. ⌜ (0 < length (now (words .entry)) → r .0 ≡ getD (now (words .entry)) 0 (r .0)) ⌝ }
-    ensures rest { λ r. ⌜ now (r .1) ≡ drop 1 (now (words .entry)) ⌝ }
+    ensures first { λ r. ⌜ now (r .0) ≡ first-of (texts (now (words .entry))) ⌝ }
+    ensures rest { λ r. ⌜ texts (now (r .1)) ≡ drop 1 (texts (now (words .entry))) ⌝ }
 {
     match words {
         [first, rest @ ..] => (*first, rest),
@@ -75,7 +75,7 @@ fn command<'a>(
     line: &'a str,
     words: &[&'a str],
 ) -> Result<Command, Unread<'a>>
-    ensures { λ r. ⌜ Says verb (now (words .entry)) r ⌝ }
+    ensures { λ r. ⌜ Comes said r (said-by verb (now (line .entry)) (texts (now (words .entry)))) ⌝ }
 {
     match verb {
         Verb::Table => table(heap, line),
@@ -89,19 +89,19 @@ fn command<'a>(
 }
 
 fn number<'a>(word: &'a str) -> Result<u8, Wrong<'a>>
-    ensures { λ r. ⌜ okPart r ≡ byte-of (now (word .entry)) ⌝ }
+    ensures { λ r. ⌜ both (λ n. n) mistake r ≡ number-of (now (word .entry)) ⌝ }
 {
     byte(word).ok_or(Wrong::NoByte(word))
 }
 
 fn signed<'a>(word: &'a str) -> Result<i16, Wrong<'a>>
-    ensures { λ r. ⌜ okPart r ≡ distance-of (now (word .entry)) ⌝ }
+    ensures { λ r. ⌜ both (λ n. n) mistake r ≡ signed-of (now (word .entry)) ⌝ }
 {
     distance(word).ok_or(Wrong::NoDistance(word))
 }
 
 fn numbers_of<'a>(words: &[&'a str]) -> Result<Numbers, Wrong<'a>>
-    ensures { λ r. ⌜ okPart r ≡ numbers-after no-numbers (now (words .entry)) ⌝ }
+    ensures { λ r. ⌜ both (λ ns. ns) mistake r ≡ numbers-of (texts (now (words .entry))) ⌝ }
 {
     match Numbers::read(words) {
         Ok(numbers) => Ok(numbers),
@@ -111,14 +111,14 @@ fn numbers_of<'a>(words: &[&'a str]) -> Result<Numbers, Wrong<'a>>
 
 // The command of a verb that only numbers follow.
 fn simple<'a>(verb: Verb, words: &[&'a str]) -> Result<Command, Wrong<'a>>
-    ensures { λ r. ⌜ okPart r ≡ simple-of verb (now (words .entry)) ⌝ }
+    ensures { λ r. ⌜ both said mistake r ≡ simple-of verb (texts (now (words .entry))) ⌝ }
 {
     let numbers = numbers_of(words)?;
     with_numbers(verb, numbers).ok_or(Wrong::WordCount)
 }
 
 fn gap<'a>(words: &[&'a str]) -> Result<Command, Wrong<'a>>
-    ensures { λ r. ⌜ okPart r ≡ gap-of (now (words .entry)) ⌝ }
+    ensures { λ r. ⌜ both said mistake r ≡ gap-of (texts (now (words .entry))) ⌝ }
 {
     let [low, high, written] = words else {
         return Err(Wrong::WordCount);
@@ -137,7 +137,7 @@ fn gap<'a>(words: &[&'a str]) -> Result<Command, Wrong<'a>>
 
 // The bytes that the words write.
 fn bytes<'a>(heap: Global, words: &[&'a str]) -> Result<Vec<u8>, Unread<'a>>
-    ensures { λ r. ⌜ made r (λ v. bytes-after [] (now (words .entry)) ≡ Some (vec-items v)) ⌝ }
+    ensures { λ r. ⌜ Comes (λ v. vec-items v) r (bytes-after [] (texts (now (words .entry)))) ⌝ }
 {
     let mut bytes = Vec::new(heap);
     for word in words {
@@ -147,7 +147,9 @@ fn bytes<'a>(heap: Global, words: &[&'a str]) -> Result<Vec<u8>, Unread<'a>>
     Ok(bytes)
 }
 
-fn table<'a>(heap: Global, line: &'a str) -> Result<Command, Unread<'a>> {
+fn table<'a>(heap: Global, line: &'a str) -> Result<Command, Unread<'a>>
+    ensures { λ r. ⌜ Comes said r (table-of (now (line .entry))) ⌝ }
+{
     let Some((before, after)) = line.split_once(':') else {
         return Err(Unread::Wrong(Wrong::NoColon));
     };
@@ -165,19 +167,28 @@ fn table<'a>(heap: Global, line: &'a str) -> Result<Command, Unread<'a>> {
 }
 
 // Rows apart by commas, each with as many options as there are questions; none in a blank text.
-fn rows<'a>(heap: Global, text: &'a str, count: u8) -> Result<Vec<u32>, Unread<'a>> {
+fn rows<'a>(heap: Global, text: &'a str, count: u8) -> Result<Vec<u32>, Unread<'a>>
+    ensures { λ r. ⌜ Comes (λ v. vec-items v) r (rows-of count (now (text .entry))) ⌝ }
+{
     let mut rows = Vec::new(heap);
     if text.trim().is_empty() {
         return Ok(rows);
     }
     for written in text.split(',') {
-        let options = numbers_of(words(heap, written)?.as_slice())?;
-        if options.count != count {
-            return Err(Unread::Wrong(Wrong::RowLength {
-                row: rows.len().saturating_add(1),
-            }));
-        }
-        rows.push(u32::from_le_bytes(options.first))?;
+        let options = row(heap, written, count, rows.len() + 1)?;
+        rows.push(options)?;
     }
     Ok(rows)
+}
+
+// The row that the text writes, with one option for each question.
+fn row<'a>(heap: Global, text: &'a str, count: u8, number: usize) -> Result<u32, Unread<'a>>
+    ensures { λ r. ⌜ Comes (λ n. n) r (row-of count number (now (text .entry))) ⌝ }
+{
+    let words = words(heap, text)?;
+    let options = numbers_of(words.as_slice())?;
+    if options.count != count {
+        return Err(Unread::Wrong(Wrong::RowLength { row: number }));
+    }
+    Ok(u32::from_le_bytes(options.first))
 }

@@ -1,4 +1,4 @@
-mod Cuts
 mod Gathers
 mod Numerals
-mod Splits
+mod Samples
+mod Unnamed

@@ -4,10 +4,11 @@ use mathlib.Core.List.{List, [], _∷_}
 use Prim.Native.Nat.{ℕ, _+_, _-_, _*_, min}
 use lib.Dec.{eqb, ltb}
 use lib.IntN.{ℤ, pos, negℤ}
-use denote.Ref.{RefT}
 use lib.ListN.{length, set}
 use Rattle.std.specs.declared.option.Option.{Option}
 use Rattle.std.specs.declared.option.Option.the-variants.{None, Some}
+use Rattle.std.specs.declared.result.Result.{Result}
+use Rattle.std.specs.declared.result.Result.the-variants.{Ok, Err}
 use Rattle.std.specs.Options.{mapped}
 use Rattle.std.specs.shelf.Text.{allDigits}
 use Rattle.wording.specs.declared.numbers.Numbers.{Numbers}
@@ -40,12 +41,12 @@ and-number ns n = record { count = min (ns .count + 1) 255; first = cond (ltb (n
 unfoldable pub no-numbers : Numbers
 no-numbers = record { count = 0; first = 0 ∷ 0 ∷ 0 ∷ 0 ∷ [] }
 
--- what is made of a number, where there is one
-abbrev pub if-some : {X Y : Type 0} → Option X → (X → Option Y) → Option Y
-if-some None f = None
-if-some (Some x) f = f x
+-- the numbers of the words, after those so far, or the first word that is no number
+unfoldable pub numbers-after : Numbers → List (List ℕ) → Result Numbers (List ℕ)
+numbers-after ns [] = Ok ns
+numbers-after ns (w ∷ ws) = elim (byte-of w) [ None ↦ Err w | Some n ↦ numbers-after (and-number ns n) ws ]
 
--- the numbers of the words, after those so far; nothing where a word is no number
-unfoldable pub numbers-after : Numbers → List (RefT (List ℕ)) → Option Numbers
-numbers-after ns [] = Some ns
-numbers-after ns (w ∷ ws) = if-some (byte-of (w .now)) (λ n. numbers-after (and-number ns n) ws)
+-- what a result of the code holds, by what its value and its error hold
+abbrev pub both : {X Y E F : Type 0} → (X → Y) → (E → F) → Result X E → Result Y F
+both f g (Ok x) = Ok (f x)
+both f g (Err e) = Err (g e)

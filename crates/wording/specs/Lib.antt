@@ -1,3 +1,2 @@
 pub mod Figures
-pub mod Marks
 pub mod Names

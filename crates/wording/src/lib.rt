@@ -1,4 +1,3 @@
-// The words and the numbers that a sitting is written in.
+// The numbers and the verbs that a sitting is written in.
 pub mod numbers;
 pub mod verb;
-pub mod words;

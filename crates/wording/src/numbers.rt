@@ -1,7 +1,7 @@
 // Numbers as they are written in a sitting.
 ghost use mathlib.Core.Path.{_≡_};
-ghost use Rattle.std.specs.Results.{okPart};
-ghost use Rattle.wording.specs.Figures.{byte-of, distance-of, and-number, no-numbers, numbers-after};
+ghost use Rattle.wording.specs.Figures.{byte-of, distance-of, and-number, no-numbers, numbers-after, both};
+ghost use Rattle.lines.specs.Marks.{texts};
 
 // The number that the word writes in decimal digits, if it is at most 255.
 pub fn byte(word: &str) -> Option<u8>
@@ -54,7 +54,7 @@ impl Numbers {
 
     // The numbers that the words write, or the first word that writes none.
     pub fn read<'a>(words: &[&'a str]) -> Result<Numbers, &'a str>
-        ensures { λ r. ⌜ okPart r ≡ numbers-after no-numbers (now (words .entry)) ⌝ }
+        ensures { λ r. ⌜ both (λ ns. ns) (λ w. w .now) r ≡ numbers-after no-numbers (texts (now (words .entry))) ⌝ }
     {
         let mut numbers = Numbers::NONE;
         for word in words {

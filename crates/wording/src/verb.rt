@@ -1,10 +1,13 @@
 // The words that commands begin with.
 ghost use mathlib.Core.Path.{_≡_};
-ghost use Rattle.std.specs.Options.{Cases as BySome};
-ghost use Rattle.wording.specs.Names.{name-of, arity-of};
+ghost use Rattle.wording.specs.Names.{arity-of, form-of, verb-names, verb-of};
 
 // Named in the text of a fault where a line begins with another word.
-pub const VERBS: &str = "table, gap, differ, open, place, pick, settle, standing or overview";
+pub fn verbs() -> &'static str
+    ensures { λ r. ⌜ now r ≡ verb-names ⌝ }
+{
+    "table, gap, differ, open, place, pick, settle, standing or overview"
+}
 
 #[derive(Clone, Copy)]
 pub enum Verb {
@@ -22,7 +25,7 @@ pub enum Verb {
 impl Verb {
     // The command that the word names, if it names one.
     pub fn named(word: &str) -> Option<Verb>
-        ensures { λ r. ⌜ BySome r ((v : Verb) → now (word .entry) ≡ name-of v → ⊥) (λ v. now (word .entry) ≡ name-of v) ⌝ }
+        ensures { λ r. ⌜ r ≡ verb-of (now (word .entry)) ⌝ }
     {
         match word {
             "table" => Some(Verb::Table),
@@ -51,7 +54,9 @@ impl Verb {
     }
 
     // How its line is written.
-    pub fn form(&self) -> &'static str {
+    pub fn form(&self) -> &'static str
+        ensures { λ r. ⌜ now r ≡ form-of (now (self .entry)) ⌝ }
+    {
         match self {
             Verb::Table => "table QUESTION.. : OPTION.., OPTION..",
             Verb::Gap => "gap QUESTION QUESTION DISTANCE",

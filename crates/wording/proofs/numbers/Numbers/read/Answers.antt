@@ -1,9 +1,8 @@
 use mathlib.Core.Path.{refl, sym, _∙_, ap}
 use Prim.Native.Nat.{_+_}
 use native.Mathlib.Omega.{arith}
-use lib.ListN.{drop}
-use Rattle.wording.specs.Figures.{no-numbers, numbers-after}
-use Rattle.wording.proofs.Gathers.{no-number, one-number, no-more}
+use Rattle.wording.specs.Figures.{no-numbers}
+use Rattle.wording.proofs.Gathers.{left-of, no-number, one-number, no-more}
 use Rattle.wording.proofs.numbers.Numbers.read.Needs as need
 
 pub loop-word-holds : need.loop-word-holds
@@ -16,7 +15,7 @@ returns-in-rest c =
 
 pub loop-word-again : need.loop-word-again
 loop-word-again c =
-    ap (λ ns. numbers-after ns (drop (c .loop-word .word-index + 1) (c .args .words .now))) (c .and-more .ensures)
+    ap (λ ns. left-of ns (c .args .words .now) (c .loop-word .word-index + 1)) (c .and-more .ensures)
     ∙ sym (one-number _ _ _ _ _ (c .loop-word-test .taken) (sym (c .byte .ensures) ∙ c .in-Some .is)) ∙ c .loop-word .inv
 
 pub returns : need.returns

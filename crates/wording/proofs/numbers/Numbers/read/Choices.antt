@@ -1,7 +1,8 @@
 use mathlib.Core.Path.{_≡_}
-use lib.ListN.{drop}
 use Rattle.wording.specs.Figures.{no-numbers, numbers-after}
+use Rattle.lines.specs.Marks.{texts}
+use Rattle.wording.proofs.Gathers.{left-of}
 use Rattle.wording.proofs.numbers.Numbers.read.Given as given
 
 abbrev pub Inv-loop-word : given.InvT-loop-word
-Inv-loop-word l = numbers-after (l .numbers) (drop (l .word-index) (l .words)) ≡ numbers-after no-numbers (l .words)
+Inv-loop-word l = left-of (l .numbers) (l .words) (l .word-index) ≡ numbers-after no-numbers (texts (l .words))

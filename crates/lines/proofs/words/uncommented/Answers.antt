@@ -2,9 +2,9 @@ use mathlib.Core.Path.{sym, _∙_, ap}
 use native.Mathlib.Omega.{arith}
 use Rattle.std.proofs.shelf.Patterns.{split-parts}
 use Rattle.std.proofs.shelf.Results.{cases-at-some, cases-at-none}
-use Rattle.wording.specs.Marks.{before}
-use Rattle.wording.proofs.Cuts.{before-none, before-split}
-use Rattle.wording.proofs.words.uncommented.Needs as need
+use Rattle.lines.specs.Marks.{before}
+use Rattle.lines.proofs.Cuts.{before-none, before-split}
+use Rattle.lines.proofs.words.uncommented.Needs as need
 
 pub returns-in-Some : need.returns-in-Some
 returns-in-Some c =

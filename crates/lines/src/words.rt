@@ -1,8 +1,9 @@
 // The lines of a sitting that say something.
 ghost use mathlib.Core.Path.{_≡_};
+ghost use mathlib.Core.List.{map};
 ghost use Rattle.std.specs.Of.Vec.{vec-items};
 ghost use Rattle.std.specs.Vec.{made};
-ghost use Rattle.wording.specs.Marks.{before, Words};
+ghost use Rattle.lines.specs.Marks.{before, content, entries-of, noted, texts, words-of};
 use std::alloc::AllocError;
 use std::alloc::Global;
 
@@ -10,7 +11,7 @@ use std::alloc::Global;
 pub struct Entry<'a> {
     // Counted from 1, blank lines and comments with the others.
     pub number: usize,
-    // The line without its comment; it has a word.
+    // The line without its comment and the blanks around it; it has a word.
     pub text: &'a str,
 }
 
@@ -26,7 +27,7 @@ pub fn uncommented(line: &str) -> &str
 
 // The words of a line, apart by blanks.
 pub fn words(heap: Global, line: &str) -> Result<Vec<&str>, AllocError>
-    ensures { λ r. ⌜ made r (λ v. Words (now (line .entry)) (vec-items v)) ⌝ }
+    ensures { λ r. ⌜ made r (λ v. texts (vec-items v) ≡ words-of (now (line .entry))) ⌝ }
 {
     let mut words = Vec::new(heap);
     for word in line.split_whitespace() {
@@ -35,14 +36,23 @@ pub fn words(heap: Global, line: &str) -> Result<Vec<&str>, AllocError>
     Ok(words)
 }
 
+// The line without its comment and the blanks around it.
+fn stripped(line: &str) -> &str
+    ensures { λ r. ⌜ now r ≡ content (now (line .entry)) ⌝ }
+{
+    uncommented(line).trim()
+}
+
 // The lines that have a word before their comment.
-pub fn entries(heap: Global, text: &str) -> Result<Vec<Entry<'_>>, AllocError> {
+pub fn entries(heap: Global, text: &str) -> Result<Vec<Entry<'_>>, AllocError>
+    ensures { λ r. ⌜ made r (λ v. map noted (vec-items v) ≡ entries-of (now (text .entry))) ⌝ }
+{
     let mut entries = Vec::new(heap);
     let mut number: usize = 0;
     for line in text.lines() {
-        number = number.saturating_add(1);
-        let text = uncommented(line);
-        if !text.trim().is_empty() {
+        number += 1;
+        let text = stripped(line);
+        if !text.is_empty() {
             entries.push(Entry { number, text })?;
         }
     }

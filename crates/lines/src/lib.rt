@@ -1,0 +1,2 @@
+// The lines of a text that say something, and their words.
+pub mod words;
