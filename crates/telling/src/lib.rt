@@ -1,0 +1,2 @@
+// What a sitting tells.
+pub mod told;
