@@ -4,13 +4,13 @@ use mathlib.Core.List.{List, [], _∷_, map}
 use Prim.Native.Nat.{ℕ}
 use lib.IntN.{pos}
 use Rattle.terms.specs.declared.scope.Scope.{Scope}
-use Rattle.books.specs.declared.table.TableRule.{TableRule}
-use Rattle.books.specs.declared.gap.GapRule.{GapRule}
+use Rattle.tables.specs.declared.table.TableRule.{TableRule}
+use Rattle.gaps.specs.declared.gap.GapRule.{GapRule}
 use Rattle.books.specs.Plain.{Plain}
 use Rattle.books.specs.Reasons.{no-reason}
-use Rattle.books.specs.Table.{table-model, table-reasons}
-use Rattle.books.specs.Gap.{gap-model, gap-reasons}
-use Rattle.books.specs.Differ.{differ-model, differ-reasons}
+use Rattle.tables.specs.Table.{table-model, table-reasons}
+use Rattle.gaps.specs.Gap.{gap-model, gap-reasons}
+use Rattle.differs.specs.Differ.{differ-model, differ-reasons}
 use Rattle.books.specs.Pair.{pair-model, pair-reasons}
 use Rattle.sheet.specs.Settle.{Reasons}
 use Rattle.cases.specs.Steps.{Step, Step.place, Step.pick, Step.settle, Case, outcome}

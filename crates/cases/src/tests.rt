@@ -1,33 +1,25 @@
 // The cases that are run, on the books and sheets themselves.
 use books::book::ReasoningBook;
-use books::differ::DifferBook;
-use books::differ::book::DifferReasons;
-use books::differ::book::DifferRules;
-use books::gap::GapBook;
-use books::gap::GapRule;
-use books::gap::book::GapReasons;
-use books::gap::book::GapRules;
 use books::pair::Pair;
 use books::pair::PairReasons;
 use books::pair::PairRules;
-use books::table::TableBook;
-use books::table::TableRule;
-use books::table::book::TableReasons;
-use books::table::book::TableRules;
+use differs::book::DifferReasons;
+use differs::book::DifferRules;
+use differs::differ::DifferBook;
+use gaps::book::GapReasons;
+use gaps::book::GapRules;
+use gaps::gap::GapBook;
+use gaps::gap::GapRule;
 use sheet::sheet::Sheet;
 use sitting::run::run as run_sitting;
 use std::test::*;
-use terms::line::Line;
+use tables::book::TableReasons;
+use tables::book::TableRules;
+use tables::table::TableBook;
+use tables::table::TableRule;
+use terms::line::BLANK;
 use terms::refusal::Refusal;
 use terms::scope::Scope;
-
-const BLANK: Line = Line {
-    kind: 0,
-    rule: 0,
-    question: 0,
-    option: 0,
-    reason: [0; 4],
-};
 
 fn two(a: u8, b: u8) -> Scope {
     Scope {

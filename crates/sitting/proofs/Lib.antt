@@ -1,0 +1,5 @@
+mod ClosingLaws
+mod LineLaws
+mod OpeningLaws
+mod SceneLaws
+mod TaleLaws

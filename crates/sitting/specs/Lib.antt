@@ -1,1 +1,4 @@
-pub mod Ledgers
+pub mod Closings
+pub mod Scenes
+pub mod Sittings
+pub mod Tales

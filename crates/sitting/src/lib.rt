@@ -1,5 +1,5 @@
 // A sitting: a book of rules, a sheet opened on it and the calls made, read as text and answered as text.
-pub mod ledger;
+mod calling;
+mod closing;
+mod opening;
 pub mod run;
-pub mod shown;
-pub mod told;

@@ -2,9 +2,9 @@ use mathlib.Core.Path.{refl}
 use Rattle.terms.specs.Masks.{has, with, less, within, declared, declared-each, less-each, within-each, with-rule}
 use Rattle.terms.specs.Scopes.{mask-at, masks-at}
 use Rattle.books.specs.Reasons.{owed}
-use Rattle.books.specs.Table.{table-model, table-reasons, option-at, some-row, unfit, note-row, note-rows}
-use Rattle.books.specs.Gap.{gap-model, gap-reasons}
-use Rattle.books.specs.Differ.{differ-model, differ-reasons}
+use Rattle.tables.specs.Table.{table-model, table-reasons, option-at, some-row, unfit, note-row, note-rows}
+use Rattle.gaps.specs.Gap.{gap-model, gap-reasons}
+use Rattle.differs.specs.Differ.{differ-model, differ-reasons}
 use Rattle.books.specs.Pair.{numbered, pair-model, pair-reasons}
 use Rattle.books.specs.Twos.{two-model, two-reasons, some-below, kept-below}
 use Rattle.record.specs.Calls.{opened, all-below, noted-rule, pick-fault, noted-pick, pushed, standing-each}
