@@ -1,4 +1,6 @@
 // What a book of rules is, what the books of every kind share, and two books as one.
+#![tactic(auto)]
+
 pub mod book;
 pub mod owing;
 pub mod pair;

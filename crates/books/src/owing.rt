@@ -14,7 +14,7 @@ pub fn owed<B: Book>(
     declared: [u32; 4],
     standing: [u32; 4],
 ) -> bool
-    ensures { result ≡ owed (model book.now) rule position option declared standing }
+    ensures { result ≡ owed (B.model book.now) rule position option declared standing }
 {
     if rule >= book.rules() {
         return false;

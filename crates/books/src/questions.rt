@@ -53,7 +53,7 @@ fn fits(scope: Scope, least: u8, most: u8) -> bool
 // The refusal of the lowest rule whose questions do not fit.
 fn misfit<R: Ties>(rules: &[R], least: u8, most: u8) -> Option<Refusal>
     requires { length rules.now ≤ 64 }
-    ensures { result ≡ misfit ties least most 0 rules.now }
+    ensures { result ≡ misfit R.ties least most 0 rules.now }
 {
     for (rule, tied) in rules.iter().enumerate() {
         if !fits(tied.scope(), least, most) {
@@ -65,7 +65,7 @@ fn misfit<R: Ties>(rules: &[R], least: u8, most: u8) -> Option<Refusal>
 
 // The first fault of rules that tie from `least` to `most` questions each: more than 64 of them, or questions that do not fit.
 pub fn rules_fault<R: Ties>(rules: &[R], least: u8, most: u8) -> Option<Refusal>
-    ensures { result ≡ rules_fault ties least most rules.now }
+    ensures { result ≡ rules_fault R.ties least most rules.now }
 {
     if rules.len() > 64 {
         return Some(Refusal::TooManyRules);

@@ -1,3 +1,5 @@
 // The calls on a sheet as values, and what they answer.
+#![tactic(auto)]
+
 pub mod call;
 pub mod make;

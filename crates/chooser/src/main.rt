@@ -1,4 +1,6 @@
 // Reads a sitting from the file named by the first argument, or from standard input, and prints what it tells.
+#![tactic(auto)]
+
 use sitting::run::run;
 use std::{env, fs, io};
 

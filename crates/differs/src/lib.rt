@@ -1,3 +1,5 @@
 // A book of rules that want unequal options.
+#![tactic(auto)]
+
 pub mod book;
 pub mod differ;

@@ -1,3 +1,5 @@
 // A book of rules that want a distance between two options.
+#![tactic(auto)]
+
 pub mod book;
 pub mod gap;

@@ -1,2 +1,4 @@
 // The lines of a text that say something, and their words.
+#![tactic(auto)]
+
 pub mod words;

@@ -1,4 +1,6 @@
 // From the lines of a sitting to its commands.
+#![tactic(auto)]
+
 pub mod command;
 pub mod fault;
 pub mod parse;

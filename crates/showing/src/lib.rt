@@ -1,4 +1,6 @@
 // How answers, refusals and log lines are written.
+#![tactic(auto)]
+
 pub mod answer;
 pub mod denied;
 pub mod logged;

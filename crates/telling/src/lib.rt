@@ -1,2 +1,4 @@
 // What a sitting tells.
+#![tactic(auto)]
+
 pub mod told;

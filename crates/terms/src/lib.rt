@@ -1,4 +1,6 @@
 // The words that everything above shares: masks of options, a rule's questions, log lines and refusals.
+#![tactic(auto)]
+
 pub mod line;
 pub mod masks;
 pub mod refusal;

@@ -28,4 +28,4 @@ returns g c =
     let e : length (questions_of s) ≡ min s.count 4 = omega (arith, length-take s.count s.questions) in
     let f : length (questions_of s) ≡ positions (g.B.Book.model c.args.book.now) c.args.rule = ap (λ x. length (questions_of x)) c.scope.ensures in
     ap not c.supports.ensures
-    ∙ unsupported (g.B.Book.model c.args.book.now) c.args.rule c.args.position c.args.option c.args.declared c.args.standing (omega (arith, c.if-rule-rules.false, c.rules.ensures)) (omega (arith, c.if-position-min.false, c.min.ensures)) (omega (arith, c.if-option-gt31.false)) (sym c.if-not-within-each.ensures)
+    ∙ unsupported (g.B.Book.model c.args.book.now) c.args.rule c.args.position c.args.option c.args.declared c.args.standing (omega (arith, c.if-rule-rules.false, c.rules.ensures)) (omega (arith, c.if-position-min.false, c.min.ensures)) (omega (arith, c.if-option-gt31.false)) (sym c.if-not-within_each.ensures)

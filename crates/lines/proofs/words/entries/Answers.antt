@@ -10,8 +10,8 @@ overflow-add-number c = omega (arith, c.in-Some.ensures.steps.0.0)
 
 pub loop-line-init : goal.loop-line-init
 loop-line-init c =
-    let whole : lines_rest c.into-iter-line-iterator.result ≡ c.args.text.now =
-    ap lines_rest c.into-iter-line-iterator.ensures.into-iter-gives ∙ c.lines-line-items.ensures.rest in
+    let whole : lines_rest c.into_iter-line-iterator.result ≡ c.args.text.now =
+    ap lines_rest c.into_iter-line-iterator.ensures.into_iter_gives ∙ c.lines-line-items.ensures.rest in
     (rw (whole, c.new-entries.ensures.items) refl, omega (arith, ap length whole))
 
 pub loop-line-preserved : goal.loop-line-preserved
@@ -20,7 +20,7 @@ loop-line-preserved c =
     let rest : List ℕ = lines_rest c.loop-line.line-iterator in
     let next : List ℕ = lines_rest c.next.new.self in
     let k = cut rest c.in-Some.line.now next step.0 step.2 in
-    let none : length c.stripped-text.result.now ≡ 0 = true-eqb (length c.stripped-text.result.now) 0 c.if-not-is-empty.ensures in (
+    let none : length c.stripped-text.result.now ≡ 0 = true-eqb (length c.stripped-text.result.now) 0 c.if-not-is_empty.ensures in (
       blank c.args.text.now rest next c.in-Some.line.now c.stripped-text.result.now (c.loop-line.number + 1) (vec_items c.loop-line.entries)
           k.0 c.stripped-text.ensures none c.loop-line.invariant.0,
       omega (arith, k.1, c.loop-line.invariant.1),

@@ -5,13 +5,13 @@ use Rattle.lines.proofs.words.words.Goals as goal
 
 pub loop-word-init : goal.loop-word-init
 loop-word-init c =
-    let whole : split_whitespace_rest c.into-iter-word-iterator.result ≡ c.args.line.now =
-    ap split_whitespace_rest c.into-iter-word-iterator.ensures.into-iter-gives ∙ c.split-whitespace-word-items.ensures.rest in
+    let whole : split_whitespace_rest c.into_iter-word-iterator.result ≡ c.args.line.now =
+    ap split_whitespace_rest c.into_iter-word-iterator.ensures.into_iter_gives ∙ c.split_whitespace-word-items.ensures.rest in
     rw (whole, c.new-words.ensures.items) (none_yet c.args.line.now (search rules))
 
 pub loop-word-preserved : goal.loop-word-preserved
 loop-word-preserved c =
-    subst (Sofar c.args.line.now (split_whitespace_rest c.next.new.self)) (sym c.in-ok-push.ensures.items)
+    subst (Sofar c.args.line.now (split_whitespace_rest c.next.new.self)) (sym c.in_ok-push.ensures.items)
     (one_more c.args.line.now (split_whitespace_rest c.loop-word.word-iterator) (split_whitespace_rest c.next.new.self)
     (vec_items c.loop-word.words) c.in-Some.word c.loop-word.invariant c.in-Some.ensures.steps)
 

@@ -8,7 +8,7 @@ pub overflow-cast-result : goal.overflow-cast-result
 overflow-cast-result c = let l : length c.args.sizes.now ≤ 16 = count_few c.args.sizes.now (sym c.in-ok-check-sizes.ensures) in search rules
 
 pub padded-all-requires : goal.padded-all-requires
-padded-all-requires c = count_few c.args.sizes.now (sym c.in-ok-check-sizes.ensures)
+padded-all-requires c = count_few c.args.sizes.now (sym c.in_ok-check_sizes.ensures)
 
 pub invariant-of-result : goal.invariant-of-result
 invariant-of-result c =

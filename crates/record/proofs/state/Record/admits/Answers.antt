@@ -21,6 +21,6 @@ returns-then-question-ge16 c =
 pub returns : goal.returns
 unfolding admissible view
 returns c =
-    ap₂ (λ a b. not a && b) c.has-stands.ensures (c.within-each-backed.ensures ∙ ap (within_each c.args.line.now.reason) c.crossed_at.ensures)
+    ap₂ (λ a b. not a && b) c.has-stands.ensures (c.within_each-backed.ensures ∙ ap (within_each c.args.line.now.reason) c.crossed_at.ensures)
     ∙ ap (λ b. b && (not (has (get_or c.args.self.now.crossed c.args.line.now.question 0) c.args.line.now.option) && within_each c.args.line.now.reason (crossed_at (view c.args.self.now) c.args.line.now.rule)))
     (sym (lt-ltb c.args.line.now.option (get_or c.args.self.now.docket.sizes c.args.line.now.question 0) c.if-line-self.false))

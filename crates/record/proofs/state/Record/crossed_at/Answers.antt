@@ -8,7 +8,7 @@ use Rattle.record.specs.Calls.{crossed_at}
 use Rattle.record.specs.State.{unscoped}
 use Rattle.record.specs.View.{view}
 use Rattle.record.proofs.state.Record.crossed_at.Goals as goal
-use Rattle.record.proofs.state.Record.crossed_at.Goals.{else-rule-lt64-via-then-rule-lt64+else-has-rule, else-rule-lt64-via-else-rule-lt64}
+use Rattle.record.proofs.state.Record.crossed_at.Goals.{else-rule-lt64-via-then-rule-lt64+else-has_rule, else-rule-lt64-via-else-rule-lt64}
 
 pub returns-then-has-rule : goal.returns-then-has-rule
 unfolding crossed_at view
@@ -17,6 +17,6 @@ returns-then-has-rule c = c.masks_at.ensures ∙ ap (masks_at c.args.self.now.cr
 pub returns-else-rule-lt64 : goal.returns-else-rule-lt64
 unfolding crossed_at view
 returns-else-rule-lt64 c = elim c.else-rule-lt64.branch [
-  | else-rule-lt64-via-then-rule-lt64+else-has-rule w ↦ sym (cond-false _ _ _ (sym w.has-rule.ensures ∙ w.if-has-rule.false))
+  | else-rule-lt64-via-then-rule-lt64+else-has_rule w ↦ sym (cond-false _ _ _ (sym w.has_rule.ensures ∙ w.if-has_rule.false))
   | else-rule-lt64-via-else-rule-lt64 w ↦ sym (cond-false _ _ _ (has_past_rules c.args.self.now.docket.placed c.args.rule c.args.self.now.docket.bits w.if-rule-lt64.false))
 ]

@@ -3,4 +3,4 @@ use Rattle.record.proofs.state.Record.is_placed.Goals as goal
 
 pub returns : goal.returns
 unfolding view
-returns c = c.has-rule.ensures
+returns c = c.has_rule.ensures

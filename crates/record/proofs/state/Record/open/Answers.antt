@@ -35,7 +35,7 @@ invariant-of-result c = (
 pub returns : goal.returns
 unfolding view opened
 returns c =
-    let d = c.in-ok-unpicked.ensures in
+    let d = c.in_ok-unpicked.ensures in
     record {
       answer = d.answer;
       state = λ i. record {

@@ -47,10 +47,10 @@ returns-then-is-some c = record {
 pub returns : goal.returns
 unfolding view noted_pick
 returns c =
-    let d = c.with-pick-self.ensures in
+    let d = c.with_pick-self.ensures in
     record {
       answer =
-          ap (λ b. refuse b (PickStands c.args.question) None) (c.if-is-some.ensures ∙ ap is_some c.pick.ensures)
+          ap (λ b. refuse b (PickStands c.args.question) None) (c.if-is_some.ensures ∙ ap is_some c.pick.ensures)
           ∙ tested (view c.args.self.now) c.args.question c.args.option c.if-question-self.false (omega (arith, c.size.ensures));
       after = λ i. record {
         count = d.count i;

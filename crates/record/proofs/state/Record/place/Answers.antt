@@ -81,12 +81,12 @@ unfolding view noted_rule answer
 returns c =
     let s = view c.args.self.now in
     record {
-      answer = by s c.args.rule c.args.scope true true false (sym (lt-ltb _ _ c.if-rule-ge64.false)) c.if-not-on-sheet.ensures c.if-has-rule.ensures;
+      answer = by s c.args.rule c.args.scope true true false (sym (lt-ltb _ _ c.if-rule-ge64.false)) c.if-not-on_sheet.ensures c.if-has_rule.ensures;
       after = λ i. record {
         count = c.args.self.now.docket.count;
         sizes = c.args.self.now.docket.sizes;
         picks = c.args.self.now.docket.picks;
-        placed = c.with-rule-self.ensures i;
+        placed = c.with_rule-self.ensures i;
         scopes = set c.args.self.now.scopes c.args.rule c.args.scope;
         crossed = c.args.self.now.crossed;
         log = take c.args.self.now.lines c.args.self.now.log;
