@@ -12,10 +12,15 @@ use Rattle.record.proofs.Heads.{total_le}
 use Rattle.record.proofs.SoundLaws.{push_heads, push_declared, push_once, push_backed, push_counted, push_room, head_question}
 
 -- what is owed of the fields where a line was written: of the crossed masks, the log, and its lines
-abbrev pub Owed : Record → List ℕ → List Line → List Line → Type 0
-Owed r cs log t =
-    (length r.scopes ≡ 64) × ((length cs ≡ 16) × ((length log ≡ 512)
-    × (Heads cs t × (Declared r.docket.sizes t × (Once t × (Backed r.docket.placed r.scopes t × ((total cs ≡ r.lines + 1) × Unit {0})))))))
+pub record Owed (r : Record) (cs : List ℕ) (log t : List Line) : Type 0 where
+  pub rules : length r.scopes ≡ 64
+  pub questions : length cs ≡ 16
+  pub room : length log ≡ 512
+  pub heads : Heads cs t
+  pub declared : Declared r.docket.sizes t
+  pub once : Once t
+  pub backed : Backed r.docket.placed r.scopes t
+  pub counted : total cs ≡ r.lines + 1
 
 module _ (r : Record) where
   pub lines_le : r.lines ≤ 512
@@ -55,25 +60,13 @@ module _ (r : Record) where
     unfolding view pushed
     kept m e =
         subst₂ (λ cs t. Owed r cs (set r.log r.lines l) t)
-        (ap (set r.crossed l.question) (sym e)) (sym written) (
-          r.rules,
-          (
-            length-set r.crossed l.question (with (get_or r.crossed l.question 0) l.option) ∙ r.questions,
-            (
-              length-set r.log r.lines l ∙ r.room,
-              (
-                push_heads (view r) sound_of l ok,
-                (
-                  push_declared (view r) sound_of l ok,
-                  (
-                    push_once (view r) sound_of l ok,
-                    (
-                      push_backed (view r) sound_of l ok four,
-                      (omega (arith, push_counted (view r) sound_of l ok, length_push (take r.lines r.log) l, lines_are), tt),
-                    ),
-                  ),
-                ),
-              ),
-            ),
-          ),
-        )
+        (ap (set r.crossed l.question) (sym e)) (sym written) record {
+          rules = r.rules;
+          questions = length-set r.crossed l.question (with (get_or r.crossed l.question 0) l.option) ∙ r.questions;
+          room = length-set r.log r.lines l ∙ r.room;
+          heads = push_heads (view r) sound_of l ok;
+          declared = push_declared (view r) sound_of l ok;
+          once = push_once (view r) sound_of l ok;
+          backed = push_backed (view r) sound_of l ok four;
+          counted = omega (arith, push_counted (view r) sound_of l ok, length_push (take r.lines r.log) l, lines_are);
+        }

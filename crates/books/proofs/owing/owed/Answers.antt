@@ -18,8 +18,8 @@ returns-then-position-min g c =
 pub returns-then-option-gt31 : goal.returns-then-option-gt31
 returns-then-option-gt31 g c = no_option _ _ _ _ _ _ c.if-option-gt31.true
 
-pub returns-then-not-within-each : goal.returns-then-not-within-each
-returns-then-not-within-each g c = undeclared _ _ _ _ _ _ (sym c.if-not-within-each.ensures)
+pub returns-then-not-within_each : goal.returns-then-not-within_each
+returns-then-not-within_each g c = undeclared _ _ _ _ _ _ (sym c.if-not-within_each.ensures)
 
 pub returns : goal.returns
 returns g c =

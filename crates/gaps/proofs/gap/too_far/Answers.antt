@@ -9,15 +9,15 @@ use Rattle.gaps.proofs.gap.too_far.Goals as goal
 abbrev none : GapRule
 none = record { scope = record { count = 0; questions = [] }; distance = pos 0 }
 
-pub returns-then-not-in-reach : goal.returns-then-not-in-reach
-returns-then-not-in-reach c =
+pub returns-then-not-in_reach : goal.returns-then-not-in_reach
+returns-then-not-in_reach c =
     let xs = c.args.rules.now in
     let i = c.loop-rule.rule in
     let f : SFits w16 (get_or xs i none).distance = search rules in
     sym
     (sym c.loop-rule.invariant
     ∙ at_drop_more (too_far i) xs i none c.loop-rule-test.true
-    ∙ far_bad i (get_or xs i none) (drop (i + 1) xs) (ap in_reach (sym (to_z-of_z w16 (get_or xs i none).distance f)) ∙ sym c.if-not-in-reach.ensures))
+    ∙ far_bad i (get_or xs i none) (drop (i + 1) xs) (ap in_reach (sym (to_z-of_z w16 (get_or xs i none).distance f)) ∙ sym c.if-not-in_reach.ensures))
 
 pub loop-rule-preserved : goal.loop-rule-preserved
 loop-rule-preserved c =
@@ -28,7 +28,7 @@ loop-rule-preserved c =
     ∙ sym
     (sym c.loop-rule.invariant
     ∙ at_drop_more (too_far i) xs i none c.loop-rule-test.true
-    ∙ far_good i (get_or xs i none) (drop (i + 1) xs) (ap in_reach (sym (to_z-of_z w16 (get_or xs i none).distance f)) ∙ sym c.if-not-in-reach.ensures))
+    ∙ far_good i (get_or xs i none) (drop (i + 1) xs) (ap in_reach (sym (to_z-of_z w16 (get_or xs i none).distance f)) ∙ sym c.if-not-in_reach.ensures))
 
 pub returns : goal.returns
 returns c =

@@ -8,17 +8,17 @@ use Rattle.reading.proofs.Exits.{comes_exit}
 use Rattle.reading.proofs.Rows.{pieces_left, piece_left, turn, stop, still, no_more, blank_rows, some_rows}
 use Rattle.reading.proofs.parse.rows.Goals as goal
 
-pub returns-then-is-empty : goal.returns-then-is-empty
-returns-then-is-empty c =
+pub returns-then-is_empty : goal.returns-then-is_empty
+returns-then-is_empty c =
     let u : IsUtf8 c.args.text.now = search rules in
     let bare : c.trim.result.now ≡ trimmed c.args.text.now = trim_is c.args.text.now c.trim.result.now u c.trim.utf8 c.trim.ensures.value in
     rw c.new-rows.ensures.items
-    (blank_rows c.args.count c.args.text.now c.trim.result.now bare (true-eqb (length c.trim.result.now) 0 c.if-is-empty.ensures))
+    (blank_rows c.args.count c.args.text.now c.trim.result.now bare (true-eqb (length c.trim.result.now) 0 c.if-is_empty.ensures))
 
 pub loop-written-init : goal.loop-written-init
 loop-written-init c =
-    let s : Split ℕ = c.into-iter-written-iterator.result in
-    let b : s ≡ c.split-written-items.result = c.into-iter-written-iterator.ensures.into-iter-gives in
+    let s : Split ℕ = c.into_iter-written-iterator.result in
+    let b : s ≡ c.split-written-items.result = c.into_iter-written-iterator.ensures.into_iter-gives in
     let live : split_has_more s ≡ true = ap split_has_more b ∙ c.split-written-items.ensures.Has-more in
     let text : split_text s ≡ c.args.text.now = ap split_text b ∙ c.split-written-items.ensures.text in
     (ap split_pattern b ∙ c.split-written-items.ensures.pattern, (λ i. rows_after c.args.count (c.new-rows.ensures.items i) (pieces_left (live i) (text i))))
@@ -36,11 +36,11 @@ loop-written-preserved c =
     let total = rows_after c.args.count [] (pieces 44 c.args.text.now) in (
       still (split_pattern t) (split_pattern s) step.1.0 inv.0,
       turn c.args.count c.len.result rows x (pieces_left (split_has_more t) (split_text t)) (pieces_left (split_has_more s) (split_text s)) total counted left inv.1
-          c.in-ok-options.options (vec_items c.push.new.self) c.in-ok-push.ensures.items c.in-ok-options.ensures,
+          c.in_ok-options.options (vec_items c.push.new.self) c.in_ok-push.ensures.items c.in_ok-options.ensures,
     )
 
-pub returns-in-err-options : goal.returns-in-err-options
-returns-in-err-options c =
+pub returns-in_err-options : goal.returns-in_err-options
+returns-in_err-options c =
     let step = c.in-Some.ensures.steps in
     let inv = c.loop-written.invariant in
     let s : Split ℕ = c.loop-written.written-iterator in
@@ -51,18 +51,18 @@ returns-in-err-options c =
     let left = piece_left (split_pattern s) (split_has_more s) (split_text s) x (split_has_more t) (split_text t) inv.0 step.0 step.1.1 in
     let u : IsUtf8 c.args.text.now = search rules in
     let bare : c.trim.result.now ≡ trimmed c.args.text.now = trim_is c.args.text.now c.trim.result.now u c.trim.utf8 c.trim.ensures.value in
-    let some : 0 < length c.trim.result.now = omega (arith, false-eqb (length c.trim.result.now) 0 c.if-is-empty.ensures) in
-    comes_exit (λ n. n) (λ v. vec_items v) c.from-residual.result c.in-err-options.field-0.0 (row_of c.args.count (c.len.result + 1) x) (rows_of c.args.count c.args.text.now)
-    c.from-residual.ensures.1
+    let some : 0 < length c.trim.result.now = omega (arith, false-eqb (length c.trim.result.now) 0 c.if-is_empty.ensures) in
+    comes_exit (λ n. n) (λ v. vec_items v) c.from_residual.result c.in_err-options.field-0.0 (row_of c.args.count (c.len.result + 1) x) (rows_of c.args.count c.args.text.now)
+    c.from_residual.ensures.1
     (λ m e. stop c.args.count c.len.result rows x (pieces_left (split_has_more t) (split_text t)) (pieces_left (split_has_more s) (split_text s)) (rows_after c.args.count [] (pieces 44 c.args.text.now))
     counted left inv.1 (rows_of c.args.count c.args.text.now) (some_rows c.args.count c.args.text.now c.trim.result.now bare some) m e)
-    c.in-err-options.ensures
+    c.in_err-options.ensures
 
 pub returns : goal.returns
 returns c =
     let s : Split ℕ = c.loop-written.written-iterator in
     let u : IsUtf8 c.args.text.now = search rules in
     let bare : c.trim.result.now ≡ trimmed c.args.text.now = trim_is c.args.text.now c.trim.result.now u c.trim.utf8 c.trim.ensures.value in
-    let some : 0 < length c.trim.result.now = omega (arith, false-eqb (length c.trim.result.now) 0 c.if-is-empty.ensures) in
+    let some : 0 < length c.trim.result.now = omega (arith, false-eqb (length c.trim.result.now) 0 c.if-is_empty.ensures) in
     no_more c.args.count (vec_items c.loop-written.rows) (split_text s) (split_has_more s) (rows_after c.args.count [] (pieces 44 c.args.text.now)) (rows_of c.args.count c.args.text.now)
     c.in-None.ensures.steps.0 c.loop-written.invariant.1 (some_rows c.args.count c.args.text.now c.trim.result.now bare some)

@@ -3,7 +3,7 @@ use Rattle.record.specs.View.{view}
 use Rattle.sheet.specs.Settle.{upto, visit_rule, round}
 use Rattle.sheet.proofs.Steps.{upto_more, rule_placed, rule_absent}
 use Rattle.sheet.proofs.settle.go_round.Goals as goal
-use Rattle.sheet.proofs.settle.go_round.Goals.{then-is-placed, else-is-placed}
+use Rattle.sheet.proofs.settle.go_round.Goals.{then-is_placed, else-is_placed}
 
 pub loop-rule-init : goal.loop-rule-init
 unfolding upto
@@ -16,12 +16,12 @@ loop-rule-preserved g c =
     let s = view c.loop-rule.state in
     let r = c.loop-rule.rule in
     let start = view c.args.state.now in
-    elim c.if-is-placed.branch [
-      | then-is-placed w ↦
-          ap view w.state-is ∙ w.visit-positions.ensures ∙ rule_placed b why s r (sym c.is-placed.ensures ∙ w.if-is-placed.true)
+    elim c.if-is_placed.branch [
+      | then-is_placed w ↦
+          ap view w.state-is ∙ w.visit_positions.ensures ∙ rule_placed b why s r (sym c.is_placed.ensures ∙ w.if-is_placed.true)
           ∙ ap (visit_rule b why r) c.loop-rule.invariant ∙ upto_more (visit_rule b why) r start
-      | else-is-placed w ↦
-          ap view w.state-is ∙ rule_absent b why s r (sym c.is-placed.ensures ∙ w.if-is-placed.false)
+      | else-is_placed w ↦
+          ap view w.state-is ∙ rule_absent b why s r (sym c.is_placed.ensures ∙ w.if-is_placed.false)
           ∙ ap (visit_rule b why r) c.loop-rule.invariant ∙ upto_more (visit_rule b why) r start
     ]
 

@@ -17,7 +17,7 @@ returns-then-not-has g c =
     let s = view c.args.state.now in
     visit_fallen _ _ c.args.rule c.args.position c.args.option s
     (ap₂ (λ ms t. has (mask_at ms t c.args.position) c.args.option) (sym c.standing-all.ensures) (sym c.scope-questions.ensures)
-    ∙ ap (λ m. has m c.args.option) (sym c.mask-at-here.ensures) ∙ sym c.if-not-has.ensures)
+    ∙ ap (λ m. has m c.args.option) (sym c.mask_at-here.ensures) ∙ sym c.if-not-has.ensures)
 
 pub returns-then-supports : goal.returns-then-supports
 returns-then-supports g c =
@@ -25,7 +25,7 @@ returns-then-supports g c =
     let b = g.B.Book.model c.args.book.now in
     visit_supported b _ c.args.rule c.args.position c.args.option s
     (ap₂ (λ ms t. b.supports c.args.rule c.args.position c.args.option (masks_at ms t)) (sym c.standing-all.ensures) (sym c.scope-questions.ensures)
-    ∙ ap (b.supports c.args.rule c.args.position c.args.option) (sym c.masks-at-standing.ensures) ∙ sym c.if-supports.ensures)
+    ∙ ap (b.supports c.args.rule c.args.position c.args.option) (sym c.masks_at-standing.ensures) ∙ sym c.if-supports.ensures)
 
 pub bounds-questions-position : goal.bounds-questions-position
 bounds-questions-position g c =
@@ -33,7 +33,7 @@ bounds-questions-position g c =
     let four : length c.scope-questions.result.questions ≡ 4 = search rules in
     let e : has (mask_at (standing_each s) (noted_scope s c.args.rule) c.args.position) c.args.option ≡ true =
     ap₂ (λ ms t. has (mask_at ms t c.args.position) c.args.option) (sym c.standing-all.ensures) (sym c.scope-questions.ensures)
-    ∙ ap (λ m. has m c.args.option) (sym c.mask-at-here.ensures) ∙ sym c.if-not-has.ensures in
+    ∙ ap (λ m. has m c.args.option) (sym c.mask_at-here.ensures) ∙ sym c.if-not-has.ensures in
     let h : c.args.position < positions_of c.scope-questions.result =
     subst (λ t. c.args.position < positions_of t) (sym c.scope-questions.ensures)
     (visited_position _ _ c.reasonable.ensures s (sound_of c.args.state.now) c.args.rule c.args.position c.args.option c.requires e) in
@@ -49,14 +49,14 @@ returns g c =
     let o = c.args.option in
     let e : has (mask_at (standing_each s) (noted_scope s r) p) o ≡ true =
     ap₂ (λ ms t. has (mask_at ms t p) o) (sym c.standing-all.ensures) (sym c.scope-questions.ensures)
-    ∙ ap (λ m. has m o) (sym c.mask-at-here.ensures) ∙ sym c.if-not-has.ensures in
-    let stands : c.masks-at-standing.result ≡ standing_masks s (noted_scope s r) = c.masks-at-standing.ensures ∙ ap₂ masks_at c.standing-all.ensures c.scope-questions.ensures in
+    ∙ ap (λ m. has m o) (sym c.mask_at-here.ensures) ∙ sym c.if-not-has.ensures in
+    let stands : c.masks_at-standing.result ≡ standing_masks s (noted_scope s r) = c.masks_at-standing.ensures ∙ ap₂ masks_at c.standing-all.ensures c.scope-questions.ensures in
     let lacks : b.supports r p o (standing_masks s (noted_scope s r)) ≡ false = ap (b.supports r p o) (sym stands) ∙ sym c.if-supports.ensures in
     let h : p < positions_of (noted_scope s r) = visited_position b why c.reasonable.ensures s (sound_of c.args.state.now) r p o c.requires e in
     let question : get_or c.scope-questions.result.questions p 0 ≡ question_at (noted_scope s r) p =
     ap (λ t. get_or t.questions p 0) c.scope-questions.ensures ∙ sym (get_or-take (noted_scope s r).count (noted_scope s r).questions p 0 (omega (arith, positions_le (noted_scope s r)))) in
     let reason : c.reason-reason.result ≡ why r p o (declared_masks s (noted_scope s r)) (standing_masks s (noted_scope s r)) =
-    c.reason-reason.ensures ∙ ap₂ (why r p o) (c.masks-at-declared.ensures ∙ ap₂ masks_at c.declared.ensures c.scope-questions.ensures) stands in
+    c.reason-reason.ensures ∙ ap₂ (why r p o) (c.masks_at-declared.ensures ∙ ap₂ masks_at c.declared.ensures c.scope-questions.ensures) stands in
     let line : ◌≡◌ {A = Line} (record { kind = 2; rule = r; question = get_or c.scope-questions.result.questions p 0; option = o; reason = c.reason-reason.result }) (rule_line why s r p o) =
     λ i. record { kind = 2; rule = r; question = question i; option = o; reason = reason i } in
     c.cross.ensures.after

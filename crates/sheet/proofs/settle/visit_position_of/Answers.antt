@@ -11,8 +11,8 @@ pub loop-option-init : goal.loop-option-init
 unfolding upto
 loop-option-init g c = refl
 
-pub visit-option-of-requires : goal.visit-option-of-requires
-visit-option-of-requires g c =
+pub visit_option_of-requires : goal.visit_option_of-requires
+visit_option_of-requires g c =
     let b = g.B.Book.model c.args.book.now in
     let why = g.B.ReasoningBook.reasons c.args.book.now in
     let f = visit_option b why c.args.rule c.args.position in
@@ -22,7 +22,7 @@ visit-option-of-requires g c =
 pub loop-option-preserved : goal.loop-option-preserved
 loop-option-preserved g c =
     let f = visit_option (g.B.Book.model c.args.book.now) (g.B.ReasoningBook.reasons c.args.book.now) c.args.rule c.args.position in
-    c.visit-option-of.ensures ∙ ap (f c.loop-option.option) c.loop-option.invariant ∙ upto_more f c.loop-option.option (view c.args.state.now)
+    c.visit_option_of.ensures ∙ ap (f c.loop-option.option) c.loop-option.invariant ∙ upto_more f c.loop-option.option (view c.args.state.now)
 
 pub returns : goal.returns
 unfolding visit_position

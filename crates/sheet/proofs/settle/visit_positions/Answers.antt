@@ -13,8 +13,8 @@ pub loop-position-init : goal.loop-position-init
 unfolding upto
 loop-position-init g c = refl
 
-pub visit-position-of-requires : goal.visit-position-of-requires
-visit-position-of-requires g c =
+pub visit_position_of-requires : goal.visit_position_of-requires
+visit_position_of-requires g c =
     let b = g.B.Book.model c.args.book.now in
     let why = g.B.ReasoningBook.reasons c.args.book.now in
     let f = visit_position b why c.args.rule in
@@ -24,7 +24,7 @@ visit-position-of-requires g c =
 pub loop-position-preserved : goal.loop-position-preserved
 loop-position-preserved g c =
     let f = visit_position (g.B.Book.model c.args.book.now) (g.B.ReasoningBook.reasons c.args.book.now) c.args.rule in
-    c.visit-position-of.ensures ∙ ap (f c.loop-position.position) c.loop-position.invariant ∙ upto_more f c.loop-position.position (view c.args.state.now)
+    c.visit_position_of.ensures ∙ ap (f c.loop-position.position) c.loop-position.invariant ∙ upto_more f c.loop-position.position (view c.args.state.now)
 
 pub returns : goal.returns
 returns g c =

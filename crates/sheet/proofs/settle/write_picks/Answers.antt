@@ -17,7 +17,7 @@ loop-question-preserved c =
     let start = view c.args.state.now in
     elim c.match-pick.branch [
       | in-Some w ↦
-          ap view w.state-is ∙ w.cross-others.ensures
+          ap view w.state-is ∙ w.cross_others.ensures
           ∙ question_picked q s w.in-Some.picked (ap (λ d. get_or d.picks q None) (sym c.docket.ensures) ∙ sym w.in-Some.ensures)
           ∙ ap (pick_question q) c.loop-question.invariant ∙ upto_more pick_question q start
       | in-None w ↦

@@ -16,9 +16,9 @@ loop-entry-preserved g c =
     let why = g.B.ReasoningBook.reasons c.args.sheet.now.book.now in
     let entry = get_or entries i no_entry in
     let scene : Scene = record { state = view c.loop-entry.sheet.state; tale = tale c.loop-entry.told } in (
-      c.obey-line.ensures.book ∙ same,
+      c.obey_line.ensures.book ∙ same,
       ap (all_obeyed b why (map noted (drop (i + 1) entries)))
-          (c.in-ok-obey-line.ensures.scene ∙ (λ k. obeyed (g.B.Book.model (same k)) (g.B.ReasoningBook.reasons (same k)) (noted entry) (heard_of entry.text.now) scene))
+          (c.in_ok-obey_line.ensures.scene ∙ (λ k. obeyed (g.B.Book.model (same k)) (g.B.ReasoningBook.reasons (same k)) (noted entry) (heard_of entry.text.now) scene))
           ∙ sym (obeyed_more b why entries i scene c.loop-entry-test.true)
           ∙ c.loop-entry.invariant.1,
     )

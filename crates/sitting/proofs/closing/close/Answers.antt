@@ -8,11 +8,11 @@ use Rattle.sitting.specs.Closings.{log_told, closing_told}
 use Rattle.sitting.proofs.TaleLaws.{tale_answered}
 use Rattle.sitting.proofs.closing.close.Goals as goal
 
-pub tell-first-requires : goal.tell-first-requires
-tell-first-requires g c =
+pub tell_first-requires : goal.tell_first-requires
+tell_first-requires g c =
     let r = c.args.sheet.now.state in
-    let held : length (view r).log ≤ length c.copy-log.new.lines = subst (λ l. length (view r).log ≤ length l) (sym c.copy-log.ensures.buffer) (copy_holds r _ refl) in
-    subst (λ n. n ≤ length c.copy-log.new.lines) (sym c.in-Ok.ensures.count) held
+    let held : length (view r).log ≤ length c.copy_log.new.lines = subst (λ l. length (view r).log ≤ length l) (sym c.copy_log.ensures.buffer) (copy_holds r _ refl) in
+    subst (λ n. n ≤ length c.copy_log.new.lines) (sym c.in-Ok.ensures.count) held
 
 pub unreachable-requires : goal.unreachable-requires
 unreachable-requires g c =
@@ -24,8 +24,8 @@ pub returns : goal.returns
 unfolding closing_told
 returns g c =
     let r = c.args.sheet.now.state in
-    let log : take c.in-Ok.count c.copy-log.new.lines ≡ (view r).log =
-    (λ i. take (c.in-Ok.ensures.count i) (c.copy-log.ensures.buffer i)) ∙ copy_begins r _ refl in
-    let told = tale_answered c.args.told.now c.answer.new.self (codes "closing overview") (answer_text c.overview.result) c.in-ok-answer.ensures.text c.answer.ensures.sound in
+    let log : take c.in-Ok.count c.copy_log.new.lines ≡ (view r).log =
+    (λ i. take (c.in-Ok.ensures.count i) (c.copy_log.ensures.buffer i)) ∙ copy_begins r _ refl in
+    let told = tale_answered c.args.told.now c.answer.new.self (codes "closing overview") (answer_text c.overview.result) c.in_ok-answer.ensures.text c.answer.ensures.sound in
     let opened = told ∙ ap (λ a. answered (codes "closing overview") (answer_text a) (tale c.args.told.now)) c.overview.ensures in
-    IfOk-weaker c.tell-first.result _ _ (λ x e. e ∙ (λ i. log_told (g.B.Book.model c.args.book.now) 0 (log i) (opened i))) c.tell-first.ensures
+    IfOk-weaker c.tell_first.result _ _ (λ x e. e ∙ (λ i. log_told (g.B.Book.model c.args.book.now) 0 (log i) (opened i))) c.tell_first.ensures

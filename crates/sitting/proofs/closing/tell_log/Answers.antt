@@ -24,7 +24,7 @@ loop-number-preserved g c =
     let i = c.loop-number.number-counter in
     let b = g.B.Book.model c.args.book.now in
     let t = c.loop-number.told in
-    let told = tale_lined t c.line.new.self (line_text log i c.scope.result) c.in-ok-line.ensures.text c.line.ensures.sound in
+    let told = tale_lined t c.line.new.self (line_text log i c.scope.result) c.in_ok-line.ensures.text c.line.ensures.sound in
     ap (log_told b (i + 1) (drop (i + 1) log)) (told ∙ ap (λ s. lined (line_text log i s) (tale t)) c.scope.ensures)
     ∙ sym (log_more b log i _ (tale t) c.loop-number-test.true)
     ∙ c.loop-number.invariant

@@ -21,13 +21,13 @@ returns c =
     let sizes = c.args.sizes.now in
     let calls = map noted c.args.calls.now in
     let t = tale c.args.told.now in
-    let rows = c.in-default.ensures.rows in
-    let tables = c.in-default.ensures.tables in
-    let gaps = c.in-default.ensures.gaps in
-    let differs = c.in-default.ensures.differs in
-    IfOk-weaker c.open-on-three.result _ _
+    let rows = c.in_default.ensures.rows in
+    let tables = c.in_default.ensures.tables in
+    let gaps = c.in_default.ensures.gaps in
+    let differs = c.in_default.ensures.differs in
+    IfOk-weaker c.open_on_three.result _ _
     (λ done e.
     e
     ∙ (λ i. on_three (table_model (rows i) (tables i)) (table_reasons (rows i) (tables i)) (gap_model (gaps i)) (gap_reasons (gaps i)) (differ_model (differs i)) (differ_reasons (differs i)) n sizes calls t)
-    ∙ rules_granted n sizes calls t (rules_of c.args.ledger.now) c.in-default.ensures.answer)
-    c.open-on-three.ensures
+    ∙ rules_granted n sizes calls t (rules_of c.args.ledger.now) c.in_default.ensures.answer)
+    c.open_on_three.ensures

@@ -11,12 +11,12 @@ pub returns-in-Ok : goal.returns-in-Ok
 returns-in-Ok g c =
     let first = c.in-Ok.ensures.books.0 in
     let second = c.in-Ok.ensures.books.1 in
-    IfOk-weaker c.open-on.result _ _
+    IfOk-weaker c.open_on.result _ _
     (λ done e.
     e
     ∙ (λ i. on_book (pair_model (g.F.Book.model (first i)) (g.S.Book.model (second i))) (pair_reasons (g.F.Book.model (first i)).rules (g.F.ReasoningBook.reasons (first i)) (g.S.ReasoningBook.reasons (second i))) (noted c.args.entry) c.args.sizes.now (map noted c.args.calls.now) (tale c.args.told.now))
     ∙ two_granted _ _ _ _ _ _ _ _ c.in-Ok.ensures.answer)
-    c.open-on.ensures
+    c.open_on.ensures
 
 pub returns-in-Err : goal.returns-in-Err
 returns-in-Err g c =

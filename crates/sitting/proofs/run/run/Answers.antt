@@ -6,6 +6,6 @@ use Rattle.sitting.proofs.run.run.Goals as goal
 pub returns : goal.returns
 unfolding sitting_told
 returns c =
-    let entries = ap (map noted) c.as-slice.ensures.value ∙ c.in-ok-entries.ensures in
+    let entries = ap (map noted) c.as_slice.ensures.value ∙ c.in_ok-entries.ensures in
     let new = c.new-told.ensures in
-    c.in-ok-take-all.ensures ∙ (λ k. lines_told no_rules (entries k) (record { text = new.text k; sound = new.sound k }))
+    c.in_ok-take_all.ensures ∙ (λ k. lines_told no_rules (entries k) (record { text = new.text k; sound = new.sound k }))

@@ -14,13 +14,13 @@ loop-i-init c =
 
 pub returns-then-branch : goal.returns-then-branch
 returns-then-branch c =
-    let u : Turn = record { done = c.in-ok-take.field-0; rules = rules_of c.take.new.ledger; tale = tale c.take.new.told } in
-    sym (told_done (rules_of c.loop-i.ledger) c.args.entries.now c.loop-i.i (tale c.loop-i.told) c.loop-i-test.true u c.in-ok-take.ensures c.if-branch.true) ∙ c.loop-i.invariant
+    let u : Turn = record { done = c.in_ok-take.field-0; rules = rules_of c.take.new.ledger; tale = tale c.take.new.told } in
+    sym (told_done (rules_of c.loop-i.ledger) c.args.entries.now c.loop-i.i (tale c.loop-i.told) c.loop-i-test.true u c.in_ok-take.ensures c.if-branch.true) ∙ c.loop-i.invariant
 
 pub loop-i-preserved : goal.loop-i-preserved
 loop-i-preserved c =
-    let u : Turn = record { done = c.in-ok-take.field-0; rules = rules_of c.take.new.ledger; tale = tale c.take.new.told } in
-    sym (told_more (rules_of c.loop-i.ledger) c.args.entries.now c.loop-i.i (tale c.loop-i.told) c.loop-i-test.true u c.in-ok-take.ensures c.if-branch.false) ∙ c.loop-i.invariant
+    let u : Turn = record { done = c.in_ok-take.field-0; rules = rules_of c.take.new.ledger; tale = tale c.take.new.told } in
+    sym (told_more (rules_of c.loop-i.ledger) c.args.entries.now c.loop-i.i (tale c.loop-i.told) c.loop-i-test.true u c.in_ok-take.ensures c.if-branch.false) ∙ c.loop-i.invariant
 
 pub returns : goal.returns
 returns c =

@@ -4,18 +4,18 @@ use Rattle.tables.specs.Table.{unfit, option_at}
 use Rattle.tables.proofs.RowLaws.{misfit_at, note_unfit, note_at, note_none}
 use Rattle.tables.proofs.rows.note_row.Goals as goal
 
-pub returns-then-is-some : goal.returns-then-is-some
-returns-then-is-some c =
+pub returns-then-is_some : goal.returns-then-is_some
+returns-then-is_some c =
     sym
     (note_unfit c.args.count c.args.position c.args.option c.args.declared c.args.standing c.args.reason.now c.args.row
-    (ap is_some (sym c.unfit.ensures) ∙ sym c.if-is-some.ensures))
+    (ap is_some (sym c.unfit.ensures) ∙ sym c.if-is_some.ensures))
 
 pub bounds-reason-place : goal.bounds-reason-place
 bounds-reason-place c =
     omega (arith, c.requires, (misfit_at c.args.count c.args.position c.args.option c.args.standing c.args.row c.in-Some.place (sym c.in-Some.ensures)).0)
 
-pub option-at-requires : goal.option-at-requires
-option-at-requires c =
+pub option_at-requires : goal.option_at-requires
+option_at-requires c =
     omega (arith, c.requires, (misfit_at c.args.count c.args.position c.args.option c.args.standing c.args.row c.in-Some.place (sym c.in-Some.ensures)).0)
 
 pub bounds-reason-place-in-Some : goal.bounds-reason-place-in-Some
@@ -28,10 +28,10 @@ returns-in-Some c =
     ap (set c.args.reason.now j) (c.with.ensures ∙ ap (with (get_or c.args.reason.now j 0)) c.option_at.ensures)
     ∙ sym
     (note_at c.args.count c.args.position c.args.option c.args.declared c.args.standing c.args.reason.now c.args.row j
-    (ap is_some (sym c.unfit.ensures) ∙ sym c.if-is-some.ensures) (sym c.in-Some.ensures))
+    (ap is_some (sym c.unfit.ensures) ∙ sym c.if-is_some.ensures) (sym c.in-Some.ensures))
 
-pub returns-in-default : goal.returns-in-default
-returns-in-default c =
+pub returns-in_default : goal.returns-in_default
+returns-in_default c =
     sym
     (note_none c.args.count c.args.position c.args.option c.args.declared c.args.standing c.args.reason.now c.args.row
-    (ap is_some (sym c.unfit.ensures) ∙ sym c.if-is-some.ensures) (sym c.unfit-2.ensures ∙ c.in-default.is))
+    (ap is_some (sym c.unfit.ensures) ∙ sym c.if-is_some.ensures) (sym c.unfit-2.ensures ∙ c.in_default.is))

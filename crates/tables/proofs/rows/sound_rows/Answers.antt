@@ -4,14 +4,14 @@ use Rattle.tables.specs.Table.{all_rows, sound_row}
 use Rattle.tables.proofs.RowLaws.{all_fails, all_later, all_none}
 use Rattle.tables.proofs.rows.sound_rows.Goals as goal
 
-pub returns-then-not-sound-row : goal.returns-then-not-sound-row
-returns-then-not-sound-row c =
+pub returns-then-not-sound_row : goal.returns-then-not-sound_row
+returns-then-not-sound_row c =
     let xs = c.args.part.now in
     let i = c.loop-row.row-index in
     sym
     (sym c.loop-row.invariant
     ∙ at_drop_more (all_rows (sound_row c.args.count)) xs i 0 c.loop-row-test.true
-    ∙ all_fails (sound_row c.args.count) (get_or xs i 0) (drop (i + 1) xs) (sym c.if-not-sound-row.ensures))
+    ∙ all_fails (sound_row c.args.count) (get_or xs i 0) (drop (i + 1) xs) (sym c.if-not-sound_row.ensures))
 
 pub loop-row-preserved : goal.loop-row-preserved
 loop-row-preserved c =
@@ -20,7 +20,7 @@ loop-row-preserved c =
     sym
     (sym c.loop-row.invariant
     ∙ at_drop_more (all_rows (sound_row c.args.count)) xs i 0 c.loop-row-test.true
-    ∙ all_later (sound_row c.args.count) (get_or xs i 0) (drop (i + 1) xs) (sym c.if-not-sound-row.ensures))
+    ∙ all_later (sound_row c.args.count) (get_or xs i 0) (drop (i + 1) xs) (sym c.if-not-sound_row.ensures))
 
 pub returns : goal.returns
 returns c =

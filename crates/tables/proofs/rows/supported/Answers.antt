@@ -12,7 +12,7 @@ loop-place-preserved c =
     let k = c.loop-place.place in
     let row = get_or c.args.part.now c.row.row-index 0 in
     ap (λ i. unfit i c.args.position c.args.option c.args.masks row) (add-one k)
-    ∙ unfit_more k c.args.position c.args.option c.args.masks row c.loop-place.invariant (sym c.if-not-fits-at.ensures)
+    ∙ unfit_more k c.args.position c.args.option c.args.masks row c.loop-place.invariant (sym c.if-not-fits_at.ensures)
 
 -- the row does not fit at this position, so it supports nothing
 pub row-preserved : goal.row-preserved
@@ -26,7 +26,7 @@ row-preserved c =
     let f : unfit c.args.count c.args.position c.args.option c.args.masks row ≡ Some k =
     ap (λ n. unfit n c.args.position c.args.option c.args.masks row) (sym e)
     ∙ unfit_past (suc k) (c.args.count - suc k) c.args.position c.args.option c.args.masks row k
-    (unfit_here k c.args.position c.args.option c.args.masks row c.loop-place.invariant (sym c.if-not-fits-at.ensures)) in
+    (unfit_here k c.args.position c.args.option c.args.masks row c.loop-place.invariant (sym c.if-not-fits_at.ensures)) in
     sym
     (sym c.row.invariant
     ∙ at_drop_more (some_row test) xs i 0 c.row-test.true

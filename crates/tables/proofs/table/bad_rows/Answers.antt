@@ -8,15 +8,15 @@ use Rattle.tables.proofs.table.bad_rows.Goals as goal
 abbrev none : TableRule
 none = record { scope = record { count = 0; questions = [] }; first = 0; count = 0 }
 
-pub returns-then-not-sound-run : goal.returns-then-not-sound-run
-returns-then-not-sound-run c =
+pub returns-then-not-sound_run : goal.returns-then-not-sound_run
+returns-then-not-sound_run c =
     let rows = c.args.rows.now in
     let xs = c.args.rules.now in
     let i = c.loop-rule.rule in
     sym
     (sym c.loop-rule.invariant
     ∙ at_drop_more (bad_rows rows i) xs i none c.loop-rule-test.true
-    ∙ bad_here rows i (get_or xs i none) (drop (i + 1) xs) (sym c.if-not-sound-run.ensures))
+    ∙ bad_here rows i (get_or xs i none) (drop (i + 1) xs) (sym c.if-not-sound_run.ensures))
 
 pub loop-rule-preserved : goal.loop-rule-preserved
 loop-rule-preserved c =
@@ -27,7 +27,7 @@ loop-rule-preserved c =
     ∙ sym
     (sym c.loop-rule.invariant
     ∙ at_drop_more (bad_rows rows i) xs i none c.loop-rule-test.true
-    ∙ bad_later rows i (get_or xs i none) (drop (i + 1) xs) (sym c.if-not-sound-run.ensures))
+    ∙ bad_later rows i (get_or xs i none) (drop (i + 1) xs) (sym c.if-not-sound_run.ensures))
 
 pub returns : goal.returns
 returns c =

@@ -22,4 +22,4 @@ returns c =
     let h : c.args.rule.first + c.args.rule.count ≤ length c.args.rows.now = omega (arith, c.if-first-rows.false, c.if-count-rows.false) in
     let e : c.args.rule.first + c.args.rule.count - c.args.rule.first ≡ c.args.rule.count = omega arith in
     holds (leb (c.args.rule.first + c.args.rule.count) (length c.args.rows.now)) (all_rows (sound_row c.args.rule.scope.count) (run c.args.rows.now c.args.rule)) _ (le-leb _ _ h)
-    (c.sound-rows.ensures ∙ ap (λ n. all_rows (sound_row c.args.rule.scope.count) (take n (drop c.args.rule.first c.args.rows.now))) e)
+    (c.sound_rows.ensures ∙ ap (λ n. all_rows (sound_row c.args.rule.scope.count) (take n (drop c.args.rule.first c.args.rows.now))) e)

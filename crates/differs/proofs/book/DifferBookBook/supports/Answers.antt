@@ -18,7 +18,7 @@ returns-then-option-gt31 c =
 pub returns-in-0 : goal.returns-in-0
 unfolding differ_model
 returns-in-0 c =
-    c.has-other.ensures
+    c.has_other.ensures
     ∙ sym
     (ap (λ p. (two_model c.args.self.now.rules.now (λ r. differs)).supports c.args.rule p c.args.option c.args.masks) c.in-0.is
     ∙ whole c.args.self.now.rules.now (λ r. differs) c.args.rule 0 c.args.option c.args.masks c.if-rule-self.false (omega arith) (omega (arith, c.if-option-gt31.false)))
@@ -26,13 +26,13 @@ returns-in-0 c =
 pub returns-in-1 : goal.returns-in-1
 unfolding differ_model
 returns-in-1 c =
-    c.has-other-in-1.ensures
+    c.has_other-in-1.ensures
     ∙ same_some (differs c.args.option) (beside differs 1 c.args.option) (differs_back c.args.option) 32 (get_or c.args.masks 0 0)
     ∙ sym
     (ap (λ p. (two_model c.args.self.now.rules.now (λ r. differs)).supports c.args.rule p c.args.option c.args.masks) c.in-1.is
     ∙ whole c.args.self.now.rules.now (λ r. differs) c.args.rule 1 c.args.option c.args.masks c.if-rule-self.false (omega arith) (omega (arith, c.if-option-gt31.false)))
 
-pub returns-in-default : goal.returns-in-default
+pub returns-in_default : goal.returns-in_default
 unfolding differ_model
-returns-in-default c =
-    no_position_two c.args.self.now.rules.now (λ r. differs) c.args.rule c.args.position c.args.option c.args.masks (omega (arith, c.in-default))
+returns-in_default c =
+    no_position_two c.args.self.now.rules.now (λ r. differs) c.args.rule c.args.position c.args.option c.args.masks (omega (arith, c.in_default))

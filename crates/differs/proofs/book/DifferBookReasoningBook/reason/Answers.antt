@@ -22,7 +22,7 @@ returns-then-position-eq0 c =
     sym
     (reason_owed c.args.self.now.rules.now (λ r. differs) c.args.rule c.args.position o d c.args.standing c.if-not-owed.ensures
     ∙ ap (λ p. opposite p (kept_below (beside differs p o) 32 (get_or d (1 - p) 0))) c.if-position-eq0.true
-    ∙ ap (λ m. 0 ∷ m ∷ 0 ∷ 0 ∷ []) (sym (c.without.ensures ∙ kept_differs (get_or d 1 0) o (omega (arith, c.if-position-eq0.element-fits)) (omega (arith, c.without.type-inv, c.without.ensures)) a.1)))
+    ∙ ap (λ m. 0 ∷ m ∷ 0 ∷ 0 ∷ []) (sym (c.without.ensures ∙ kept_differs (get_or d 1 0) o (omega (arith, c.if-position-eq0.element_fits)) (omega (arith, c.without.type_inv, c.without.ensures)) a.1)))
 
 pub returns-else-position-eq0 : goal.returns-else-position-eq0
 unfolding differ_model differ_reasons
@@ -38,5 +38,5 @@ returns-else-position-eq0 c =
     ∙ ap (λ m. m ∷ 0 ∷ 0 ∷ 0 ∷ [])
     (sym
     (w.ensures
-    ∙ kept_differs (get_or d 0 0) o (omega (arith, c.if-position-eq0.element-fits)) (omega (arith, w.type-inv, w.ensures)) a.1
+    ∙ kept_differs (get_or d 0 0) o (omega (arith, c.if-position-eq0.element_fits)) (omega (arith, w.type_inv, w.ensures)) a.1
     ∙ same_kept (differs o) (beside differs 1 o) (differs_back o) 32 (get_or d 0 0))))

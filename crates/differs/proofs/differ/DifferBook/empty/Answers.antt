@@ -3,6 +3,6 @@ use Rattle.books.specs.Questions.{too_many, misfit, rules_fault}
 use Rattle.differs.specs.Differ.{differ_fault}
 use Rattle.differs.proofs.differ.DifferBook.empty.Goals as goal
 
-pub invariant-of-result : goal.invariant-of-result
+pub invariant_of-result : goal.invariant_of-result
 unfolding differ_fault rules_fault too_many misfit
-invariant-of-result c = (refl, tt)
+invariant_of-result c = record { sound = refl }

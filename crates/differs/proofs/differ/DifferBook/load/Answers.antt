@@ -9,6 +9,6 @@ returns-in-Some c =
     let e : differ_fault c.args.rules.now ≡ Some c.in-Some.refusal = sym c.in-Some.ensures in
     record { answer = sym (ap (λ f. answered f tt) e); book = sym (ap (λ f. loaded f c.args.rules.now c.args.self.now.rules.now) e) }
 
-pub invariant-of-self : goal.invariant-of-self
+pub invariant_of-self : goal.invariant_of-self
 unfolding differ_fault
-invariant-of-self c = (ap is_some (sym c.rules_fault.ensures ∙ c.in-default.is), tt)
+invariant_of-self c = record { sound = ap is_some (sym c.rules_fault.ensures ∙ c.in_default.is) }

@@ -30,7 +30,7 @@ returns-in-0 c =
     let f : SFits w16 (get_or gs c.args.rule none).distance = search rules in
     let p = c.args.position in
     let e : 1 ≡ 1 - p = omega (arith, c.in-0.is) in
-    c.has-beside.ensures
+    c.has_beside.ensures
     ∙ ap (λ z. some_below (beside (keeps z) p c.args.option) 32 (get_or c.args.masks 1 0)) (distance_at gs c.args.rule none c.if-rule-self.false f)
     ∙ ap (λ j. some_below (beside (keeps_rule gs c.args.rule) p c.args.option) 32 (get_or c.args.masks j 0)) e
     ∙ sym
@@ -44,15 +44,15 @@ returns-in-1 c =
     let f : SFits w16 (get_or gs c.args.rule none).distance = search rules in
     let p = c.args.position in
     let e : 0 ≡ 1 - p = omega (arith, c.in-1.is) in
-    c.has-beside-in-1.ensures
+    c.has_beside-in-1.ensures
     ∙ ap (λ z. some_below (beside (keeps z) p c.args.option) 32 (get_or c.args.masks 0 0)) (distance_at gs c.args.rule none c.if-rule-self.false f)
     ∙ ap (λ j. some_below (beside (keeps_rule gs c.args.rule) p c.args.option) 32 (get_or c.args.masks j 0)) e
     ∙ sym
     (whole (scopes_of gs) (keeps_rule gs) c.args.rule p c.args.option c.args.masks
     (omega (arith, c.if-rule-self.false, length-map gs (λ g. g.scope))) (omega (arith, c.in-1.is)) (omega (arith, c.if-option-gt31.false)))
 
-pub returns-in-default : goal.returns-in-default
+pub returns-in_default : goal.returns-in_default
 unfolding gap_model
-returns-in-default c =
+returns-in_default c =
     let gs = c.args.self.now.rules.now in
-    no_position_two (scopes_of gs) (keeps_rule gs) c.args.rule c.args.position c.args.option c.args.masks (omega (arith, c.in-default))
+    no_position_two (scopes_of gs) (keeps_rule gs) c.args.rule c.args.position c.args.option c.args.masks (omega (arith, c.in_default))

@@ -32,7 +32,7 @@ returns-then-position-eq0 c =
     (reason_owed (scopes_of gs) (keeps_rule gs) c.args.rule p o d c.args.standing c.if-not-owed.ensures
     ∙ ap (λ q. opposite q (kept_below (beside (keeps_rule gs c.args.rule) p o) 32 (get_or d (1 - q) 0))) c.if-position-eq0.true
     ∙ ap (λ m. 0 ∷ m ∷ 0 ∷ 0 ∷ [])
-    (sym (c.all-beside.ensures ∙ ap (λ z. kept_below (beside (keeps z) p o) 32 (get_or d 1 0)) (distance_at gs c.args.rule none a.0 f))))
+    (sym (c.all_beside.ensures ∙ ap (λ z. kept_below (beside (keeps z) p o) 32 (get_or d 1 0)) (distance_at gs c.args.rule none a.0 f))))
 
 pub returns-else-position-eq0 : goal.returns-else-position-eq0
 unfolding gap_model gap_reasons
@@ -48,4 +48,4 @@ returns-else-position-eq0 c =
     (reason_owed (scopes_of gs) (keeps_rule gs) c.args.rule p o d c.args.standing c.if-not-owed.ensures
     ∙ ap (λ q. opposite q (kept_below (beside (keeps_rule gs c.args.rule) p o) 32 (get_or d (1 - q) 0))) e
     ∙ ap (λ m. m ∷ 0 ∷ 0 ∷ 0 ∷ [])
-    (sym (c.all-beside-else-position-eq0.ensures ∙ ap (λ z. kept_below (beside (keeps z) p o) 32 (get_or d 0 0)) (distance_at gs c.args.rule none a.0 f))))
+    (sym (c.all_beside-else-position-eq0.ensures ∙ ap (λ z. kept_below (beside (keeps z) p o) 32 (get_or d 0 0)) (distance_at gs c.args.rule none a.0 f))))

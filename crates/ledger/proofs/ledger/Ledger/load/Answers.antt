@@ -43,11 +43,11 @@ unfolding table_model
 returns-in-Err c =
     let l = c.args.self.now in
     let t : table_fault (vec_items l.rows) (vec_items l.tables) ≡ None =
-    ap₂ table_fault (sym c.as-slice.ensures.value) (sym c.as-slice-2.ensures.value) ∙ sym (said _ _ c.in-ok-load.ensures.answer) in
-    let h : gap_fault (vec_items l.gaps) ≡ Some c.in-Err.refusal = ap gap_fault (sym c.as-slice-3.ensures.value) ∙ sym (said _ _ c.in-Err.ensures.answer) in
+    ap₂ table_fault (sym c.as_slice.ensures.value) (sym c.as_slice-2.ensures.value) ∙ sym (said _ _ c.in_ok-load.ensures.answer) in
+    let h : gap_fault (vec_items l.gaps) ≡ Some c.in-Err.refusal = ap gap_fault (sym c.as_slice-3.ensures.value) ∙ sym (said _ _ c.in-Err.ensures.answer) in
     let n : c.rules-before.result ≡ length (vec_items l.tables) =
     c.rules-before.ensures
-    ∙ ap length (took _ _ _ _ (sym (said _ _ c.in-ok-load.ensures.answer)) c.in-ok-load.ensures.rules ∙ c.as-slice-2.ensures.value) in
+    ∙ ap length (took _ _ _ _ (sym (said _ _ c.in_ok-load.ensures.answer)) c.in_ok-load.ensures.rules ∙ c.as_slice-2.ensures.value) in
     record {
       answer = ap Some c.renumbered.ensures ∙ of_gaps (vec_items l.rows) (vec_items l.tables) (vec_items l.gaps) (vec_items l.differs) c.in-Err.refusal c.rules-before.result t h n;
       rows = refl;
@@ -61,19 +61,19 @@ unfolding table_model gap_model two_model
 returns-in-Err-load c =
     let l = c.args.self.now in
     let t : table_fault (vec_items l.rows) (vec_items l.tables) ≡ None =
-    ap₂ table_fault (sym c.as-slice.ensures.value) (sym c.as-slice-2.ensures.value) ∙ sym (said _ _ c.in-ok-load.ensures.answer) in
-    let h : gap_fault (vec_items l.gaps) ≡ None = ap gap_fault (sym c.as-slice-3.ensures.value) ∙ sym (said _ _ c.in-default.ensures.answer) in
-    let d : differ_fault (vec_items l.differs) ≡ Some c.in-Err-load.refusal = ap differ_fault (sym c.as-slice-4.ensures.value) ∙ sym (said _ _ c.in-Err-load.ensures.answer) in
+    ap₂ table_fault (sym c.as_slice.ensures.value) (sym c.as_slice-2.ensures.value) ∙ sym (said _ _ c.in_ok-load.ensures.answer) in
+    let h : gap_fault (vec_items l.gaps) ≡ None = ap gap_fault (sym c.as_slice-3.ensures.value) ∙ sym (said _ _ c.in_default.ensures.answer) in
+    let d : differ_fault (vec_items l.differs) ≡ Some c.in-Err-load.refusal = ap differ_fault (sym c.as_slice-4.ensures.value) ∙ sym (said _ _ c.in-Err-load.ensures.answer) in
     let n : c.rules-before.result ≡ length (vec_items l.tables) =
     c.rules-before.ensures
-    ∙ ap length (took _ _ _ _ (sym (said _ _ c.in-ok-load.ensures.answer)) c.in-ok-load.ensures.rules ∙ c.as-slice-2.ensures.value) in
+    ∙ ap length (took _ _ _ _ (sym (said _ _ c.in_ok-load.ensures.answer)) c.in_ok-load.ensures.rules ∙ c.as_slice-2.ensures.value) in
     let m : c.rules.result ≡ length (vec_items l.gaps) =
     c.rules.ensures
     ∙ length-map _ (λ g. g.scope)
-    ∙ ap length (took _ _ _ _ (sym (said _ _ c.in-default.ensures.answer)) c.in-default.ensures.book ∙ c.as-slice-3.ensures.value) in
-    let k : c.saturating-add-before.result ≡ min (length (vec_items l.tables) + length (vec_items l.gaps)) 255 = c.saturating-add-before.ensures ∙ ap₂ (λ a b. min (a + b) 255) n m in
+    ∙ ap length (took _ _ _ _ (sym (said _ _ c.in_default.ensures.answer)) c.in_default.ensures.book ∙ c.as_slice-3.ensures.value) in
+    let k : c.saturating_add-before.result ≡ min (length (vec_items l.tables) + length (vec_items l.gaps)) 255 = c.saturating_add-before.ensures ∙ ap₂ (λ a b. min (a + b) 255) n m in
     record {
-      answer = ap Some c.renumbered-in-Err-load.ensures ∙ of_differs (vec_items l.rows) (vec_items l.tables) (vec_items l.gaps) (vec_items l.differs) c.in-Err-load.refusal c.saturating-add-before.result t h d k;
+      answer = ap Some c.renumbered-in-Err-load.ensures ∙ of_differs (vec_items l.rows) (vec_items l.tables) (vec_items l.gaps) (vec_items l.differs) c.in-Err-load.refusal c.saturating_add-before.result t h d k;
       rows = refl;
       tables = refl;
       gaps = refl;

@@ -10,4 +10,4 @@ pub returns-in-NoDistance-clause-writes : goal.returns-in-NoDistance-clause-writ
 returns-in-NoDistance-clause-writes g c = rw c.in-NoDistance.is c.write-in-NoDistance.ensures.writes
 
 pub returns-in-WordCount-clause-writes : goal.returns-in-WordCount-clause-writes
-returns-in-WordCount-clause-writes g c = rw c.in-WordCount.is c.write-str.ensures.writes
+returns-in-WordCount-clause-writes g c = rw c.in-WordCount.is c.write_str.ensures.writes

@@ -11,34 +11,20 @@ bounds-picks-question c =
       | inr h ↦ absurd (omega (arith, get_or_past c.args.self.sizes c.args.question 0 (omega (arith, c.args.self.sixteen))))
     ]
 
-pub invariant-of-result : goal.invariant-of-result
-invariant-of-result c =
+pub invariant_of-result : goal.invariant_of-result
+invariant_of-result c =
     let d = c.args.self in
     let h : c.args.question < 16 = elim (cases_lt c.args.question 16) [
       | inl i ↦ i
       | inr i ↦ absurd (omega (arith, get_or_past c.args.self.sizes c.args.question 0 (omega (arith, c.args.self.sixteen))))
-    ] in (
-      d.sixteen,
-      (
-        length-set d.picks c.args.question (Some c.args.option) ∙ d.slots,
-        (
-          d.bits,
-          (
-            d.some,
-            (
-              d.few,
-              (
-                d.large,
-                (
-                  d.small,
-                  (
-                    d.past,
-                    (picked_more d.sizes d.picks c.args.question c.args.option d.picked (omega (arith, d.slots)) c.requires, tt),
-                  ),
-                ),
-              ),
-            ),
-          ),
-        ),
-      ),
-    )
+    ] in record {
+  sixteen = d.sixteen;
+  slots = length-set d.picks c.args.question (Some c.args.option) ∙ d.slots;
+  bits = d.bits;
+  some = d.some;
+  few = d.few;
+  large = d.large;
+  small = d.small;
+  past = d.past;
+  picked = picked_more d.sizes d.picks c.args.question c.args.option d.picked (omega (arith, d.slots)) c.requires;
+}

@@ -13,24 +13,25 @@ pub bounds-self-question-2 : goal.bounds-self-question-2
 bounds-self-question-2 c =
     head_question (view c.args.self.now) (sound_of c.args.self.now) c.args.line.now (sym c.if-not-admits.ensures)
 
-within : (c : goal.After-self·1) → c.args.self.now.lines < 512
+within : (c : goal.After-self-1) → c.args.self.now.lines < 512
 within c =
     let four : length c.args.line.now.reason ≡ 4 = search rules in
     fits c.args.self.now c.args.line.now four (sym c.if-not-admits.ensures)
 
-pub offset-bounds-self-self : goal.offset-bounds-self-self
-offset-bounds-self-self c = let l = within c in search rules
+pub offset_bounds-self-self : goal.offset_bounds-self-self
+offset_bounds-self-self c = let l = within c in search rules
 
 pub bounds-self-self : goal.bounds-self-self
 bounds-self-self c = within c
 
-pub overflow-add-self : goal.overflow-add-self
-overflow-add-self c = let l = within c in search rules
+pub overflow_add-self : goal.overflow_add-self
+overflow_add-self c = let l = within c in search rules
 
-pub invariant-of-self : goal.invariant-of-self
-invariant-of-self c =
+pub invariant_of-self : goal.invariant_of-self
+invariant_of-self c =
     let four : length c.args.line.now.reason ≡ 4 = search rules in
-    kept c.args.self.now c.args.line.now four (sym c.if-not-admits.ensures) c.with.result c.with.ensures
+    let k = kept c.args.self.now c.args.line.now four (sym c.if-not-admits.ensures) c.with.result c.with.ensures in
+    record { rules = k.rules; questions = k.questions; room = k.room; heads = k.heads; declared = k.declared; once = k.once; backed = k.backed; counted = k.counted }
 
 pub returns : goal.returns
 unfolding pushed view

@@ -10,9 +10,9 @@ use Rattle.record.specs.View.{view}
 use Rattle.record.proofs.state.Record.crossed_at.Goals as goal
 use Rattle.record.proofs.state.Record.crossed_at.Goals.{else-rule-lt64-via-then-rule-lt64+else-has_rule, else-rule-lt64-via-else-rule-lt64}
 
-pub returns-then-has-rule : goal.returns-then-has-rule
+pub returns-then-has_rule : goal.returns-then-has_rule
 unfolding crossed_at view
-returns-then-has-rule c = c.masks_at.ensures ∙ ap (masks_at c.args.self.now.crossed) (get_or_default c.args.self.now.scopes c.args.rule _ unscoped (omega arith)) ∙ sym (cond-true _ _ _ (sym c.if-has-rule.ensures))
+returns-then-has_rule c = c.masks_at.ensures ∙ ap (masks_at c.args.self.now.crossed) (get_or_default c.args.self.now.scopes c.args.rule _ unscoped (omega arith)) ∙ sym (cond-true _ _ _ (sym c.if-has_rule.ensures))
 
 pub returns-else-rule-lt64 : goal.returns-else-rule-lt64
 unfolding crossed_at view

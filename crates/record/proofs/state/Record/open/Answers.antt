@@ -7,30 +7,18 @@ use Rattle.record.proofs.Heads.{none_crossed, total_none, unreasoned}
 use Rattle.record.proofs.SoundLaws.{implying}
 use Rattle.record.proofs.state.Record.open.Goals as goal
 
-pub invariant-of-result : goal.invariant-of-result
+pub invariant_of-result : goal.invariant_of-result
 unfolding headed
-invariant-of-result c = (
-  refl,
-  (
-    refl,
-    (
-      refl,
-      (
-        λ q o. none_crossed 16 q o,
-        (
-          λ k h. absurd (not-suc-le-zero h),
-          (
-            λ k h. absurd (not-suc-le-zero h),
-            (
-              λ k j x. implying _ _ (λ e. absurd (both_ways _ (unreasoned j x) e)),
-              (total_none 16, tt),
-            ),
-          ),
-        ),
-      ),
-    ),
-  ),
-)
+invariant_of-result c = record {
+  rules = refl;
+  questions = refl;
+  room = refl;
+  heads = λ q o. none_crossed 16 q o;
+  declared = λ k h. absurd (not-suc-le-zero h);
+  once = λ k h. absurd (not-suc-le-zero h);
+  backed = λ k j x. implying _ _ (λ e. absurd (both_ways _ (unreasoned j x) e));
+  counted = total_none 16;
+}
 
 pub returns : goal.returns
 unfolding view opened

@@ -35,11 +35,11 @@ returns-then-option-size c = record {
   after = refl;
 }
 
-pub returns-then-is-some : goal.returns-then-is-some
+pub returns-then-is_some : goal.returns-then-is_some
 unfolding view
-returns-then-is-some c = record {
+returns-then-is_some c = record {
   answer =
-      ap (λ b. refuse b (PickStands c.args.question) None) (c.if-is-some.ensures ∙ ap is_some c.pick.ensures)
+      ap (λ b. refuse b (PickStands c.args.question) None) (c.if-is_some.ensures ∙ ap is_some c.pick.ensures)
       ∙ tested (view c.args.self.now) c.args.question c.args.option c.if-question-self.false (omega (arith, c.size.ensures));
   after = refl;
 }

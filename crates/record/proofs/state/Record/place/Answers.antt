@@ -31,50 +31,37 @@ returns-then-rule-ge64 c =
       after = refl;
     }
 
-pub returns-then-not-on-sheet : goal.returns-then-not-on-sheet
+pub returns-then-not-on_sheet : goal.returns-then-not-on_sheet
 unfolding view answer
-returns-then-not-on-sheet c =
+returns-then-not-on_sheet c =
     let s = view c.args.self.now in
     record {
-      answer = by s c.args.rule c.args.scope true false (has s.placed c.args.rule) (sym (lt-ltb _ _ c.if-rule-ge64.false)) c.if-not-on-sheet.ensures refl;
+      answer = by s c.args.rule c.args.scope true false (has s.placed c.args.rule) (sym (lt-ltb _ _ c.if-rule-ge64.false)) c.if-not-on_sheet.ensures refl;
       after = refl;
     }
 
-pub returns-then-has-rule : goal.returns-then-has-rule
+pub returns-then-has_rule : goal.returns-then-has_rule
 unfolding view answer
-returns-then-has-rule c =
+returns-then-has_rule c =
     let s = view c.args.self.now in
     record {
-      answer = by s c.args.rule c.args.scope true true true (sym (lt-ltb _ _ c.if-rule-ge64.false)) c.if-not-on-sheet.ensures c.if-has-rule.ensures;
+      answer = by s c.args.rule c.args.scope true true true (sym (lt-ltb _ _ c.if-rule-ge64.false)) c.if-not-on_sheet.ensures c.if-has_rule.ensures;
       after = refl;
     }
 
-pub invariant-of-self-2 : goal.invariant-of-self-2
-invariant-of-self-2 c =
+pub invariant_of-self-2 : goal.invariant_of-self-2
+invariant_of-self-2 c =
     let r = c.args.self.now in
-    let log = take r.lines r.log in (
-      length-set r.scopes c.args.rule c.args.scope ∙ r.rules,
-      (
-        r.questions,
-        (
-          r.room,
-          (
-            r.heads,
-            (
-              r.declared,
-              (
-                r.once,
-                (
-                  subst (λ p. Backed p (set r.scopes c.args.rule c.args.scope) log) (sym c.with-rule-self.ensures)
-                      (place_backed r.docket.placed r.scopes log c.args.rule c.args.scope c.if-rule-ge64.false (sym c.if-has-rule.ensures) r.backed),
-                  (r.counted, tt),
-                ),
-              ),
-            ),
-          ),
-        ),
-      ),
-    )
+    let log = take r.lines r.log in record {
+  rules = length-set r.scopes c.args.rule c.args.scope ∙ r.rules;
+  questions = r.questions;
+  room = r.room;
+  heads = r.heads;
+  declared = r.declared;
+  once = r.once;
+  backed = subst (λ p. Backed p (set r.scopes c.args.rule c.args.scope) log) (sym c.with_rule-self.ensures) (place_backed r.docket.placed r.scopes log c.args.rule c.args.scope c.if-rule-ge64.false (sym c.if-has_rule.ensures) r.backed);
+  counted = r.counted;
+}
 
 pub returns : goal.returns
 unfolding view noted_rule answer

@@ -7,7 +7,7 @@ use Rattle.sheet.proofs.sheet.Sheet.open.Goals as goal
 
 pub returns : goal.returns
 returns g c =
-    let made = c.in-ok-state.ensures in
+    let made = c.in_ok-state.ensures in
     record {
       answer = made.answer;
       state = made.state;

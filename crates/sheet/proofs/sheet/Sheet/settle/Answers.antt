@@ -21,10 +21,10 @@ rounds-smaller g c =
     let b = g.B.Book.model c.rounds.self.book.now in
     let why = g.B.ReasoningBook.reasons c.rounds.self.book.now in
     let s = view c.rounds.self.state in
-    let t = view c.go-round.new.state in
-    let loud : eqb (length t.log) (length s.log) ≡ false = not-true _ (sym c.go-round.ensures.answer ∙ c.rounds-test.true) in
-    let grown : length s.log ≤ length t.log = subst (λ u. length s.log ≤ length u.log) (sym c.go-round.ensures.after) (later_lines s (round b why s) (round_later b why s)) in
-    let few : length t.log ≤ 512 = lines_few b why t (sound_of c.go-round.new.state) in
+    let t = view c.go_round.new.state in
+    let loud : eqb (length t.log) (length s.log) ≡ false = not-true _ (sym c.go_round.ensures.answer ∙ c.rounds-test.true) in
+    let grown : length s.log ≤ length t.log = subst (λ u. length s.log ≤ length u.log) (sym c.go_round.ensures.after) (later_lines s (round b why s) (round_later b why s)) in
+    let few : length t.log ≤ 512 = lines_few b why t (sound_of c.go_round.new.state) in
     omega (arith, eqb-false (length t.log) (length s.log) loud)
 
 pub rounds-preserved : goal.rounds-preserved
@@ -32,10 +32,10 @@ rounds-preserved g c =
     let b = g.B.Book.model c.rounds.self.book.now in
     let why = g.B.ReasoningBook.reasons c.rounds.self.book.now in
     let s = view c.rounds.self.state in
-    let t = view c.go-round.new.state in
-    let loud : eqb (length t.log) (length s.log) ≡ false = not-true _ (sym c.go-round.ensures.answer ∙ c.rounds-test.true) in
-    let grown : length s.log ≤ length t.log = subst (λ u. length s.log ≤ length u.log) (sym c.go-round.ensures.after) (later_lines s (round b why s) (round_later b why s)) in
-    (c.rounds.invariant.0, rounds_on b why s t (rounds b why 513 (view c.write-picks.new.state)) c.go-round.ensures.after loud grown (lines_few b why s (sound_of c.rounds.self.state)) c.rounds.invariant.1)
+    let t = view c.go_round.new.state in
+    let loud : eqb (length t.log) (length s.log) ≡ false = not-true _ (sym c.go_round.ensures.answer ∙ c.rounds-test.true) in
+    let grown : length s.log ≤ length t.log = subst (λ u. length s.log ≤ length u.log) (sym c.go_round.ensures.after) (later_lines s (round b why s) (round_later b why s)) in
+    (c.rounds.invariant.0, rounds_on b why s t (rounds b why 513 (view c.write_picks.new.state)) c.go_round.ensures.after loud grown (lines_few b why s (sound_of c.rounds.self.state)) c.rounds.invariant.1)
 
 pub returns : goal.returns
 unfolding settled
@@ -44,15 +44,15 @@ returns g c =
     let why = g.B.ReasoningBook.reasons c.args.self.now.book.now in
     let start = c.args.self.now.state in
     let s = view c.rounds.self.state in
-    let t = view c.go-round.new.state in
+    let t = view c.go_round.new.state in
     let books = c.rounds.invariant.0 in
-    let quiet : eqb (length t.log) (length s.log) ≡ true = not-false _ (sym c.go-round.ensures.answer ∙ c.rounds-test.false) in
+    let quiet : eqb (length t.log) (length s.log) ≡ true = not-false _ (sym c.go_round.ensures.answer ∙ c.rounds-test.false) in
     let over = rounds_over (g.B.Book.model c.rounds.self.book.now) (g.B.ReasoningBook.reasons c.rounds.self.book.now) s t
-    (rounds (g.B.Book.model c.rounds.self.book.now) (g.B.ReasoningBook.reasons c.rounds.self.book.now) 513 (view c.write-picks.new.state))
-    c.go-round.ensures.after quiet (lines_few b why s (sound_of c.rounds.self.state)) c.rounds.invariant.1 in
+    (rounds (g.B.Book.model c.rounds.self.book.now) (g.B.ReasoningBook.reasons c.rounds.self.book.now) 513 (view c.write_picks.new.state))
+    c.go_round.ensures.after quiet (lines_few b why s (sound_of c.rounds.self.state)) c.rounds.invariant.1 in
     let after : t ≡ settled b why (view start) =
-    over ∙ ap (λ k. rounds (g.B.Book.model k.now) (g.B.ReasoningBook.reasons k.now) 513 (view c.write-picks.new.state)) books
-    ∙ ap (rounds b why 513) c.write-picks.ensures in
+    over ∙ ap (λ k. rounds (g.B.Book.model k.now) (g.B.ReasoningBook.reasons k.now) 513 (view c.write_picks.new.state)) books
+    ∙ ap (rounds b why 513) c.write_picks.ensures in
     record {
       after = after;
       book = ap (λ k. k.now) books;

@@ -3,7 +3,7 @@ use Rattle.std.proofs.Output.{has_written_of_eq, has_written_to_eq, has_written_
 use Rattle.showing.specs.Texts.{named_below, named_text}
 use Rattle.showing.proofs.TextLaws.{named_more, named_same}
 use Rattle.showing.proofs.logged.NamedDisplay.fmt.Goals as goal
-use Rattle.showing.proofs.logged.NamedDisplay.fmt.Goals.{then-has+in-ok-write, else-has}
+use Rattle.showing.proofs.logged.NamedDisplay.fmt.Goals.{then-has+in_ok-write, else-has}
 
 pub loop-option-init : goal.loop-option-init
 unfolding named_below
@@ -13,9 +13,9 @@ pub loop-option-preserved : goal.loop-option-preserved
 loop-option-preserved g c = λ plain.
     let x = c.loop-option.invariant plain in
     elim c.if-has.branch [
-      | then-has+in-ok-write w ↦
+      | then-has+in_ok-write w ↦
           has_written_of_eq g.W.Write.write_str_gives _ _ _ _ (sym (named_more c.loop-option.option-counter c.args.self.now.question c.args.self.now.mask (sym c.has.ensures ∙ w.if-has.true)))
-          (has_written_to_eq g.W.Write.write_str_gives _ _ _ _ w.f-is (has_written_append g.W.Write.write_str_gives _ _ _ _ _ x (w.in-ok-write.ensures.shows x.plain refl)))
+          (has_written_to_eq g.W.Write.write_str_gives _ _ _ _ w.f-is (has_written_append g.W.Write.write_str_gives _ _ _ _ _ x (w.in_ok-write.ensures.shows x.plain refl)))
       | else-has w ↦
           has_written_of_eq g.W.Write.write_str_gives _ _ _ _ (sym (named_same c.loop-option.option-counter c.args.self.now.question c.args.self.now.mask (sym c.has.ensures ∙ w.if-has.false)))
           (has_written_to_eq g.W.Write.write_str_gives _ _ _ _ w.f-is x)

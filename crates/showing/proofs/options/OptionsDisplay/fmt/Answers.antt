@@ -4,10 +4,10 @@ use Rattle.std.proofs.Output.{has_written_of_eq, has_written_to_eq, has_written_
 use Rattle.showing.specs.Texts.{gap, options_below, options_text}
 use Rattle.showing.proofs.TextLaws.{options_more, options_gap, options_same, options_text_none, options_text_some}
 use Rattle.showing.proofs.options.OptionsDisplay.fmt.Goals as goal
-use Rattle.showing.proofs.options.OptionsDisplay.fmt.Goals.{then-has+in-ok-write, else-has}
+use Rattle.showing.proofs.options.OptionsDisplay.fmt.Goals.{then-has+in_ok-write, else-has}
 
 pub returns-then-self-eq0-clause-writes : goal.returns-then-self-eq0-clause-writes
-returns-then-self-eq0-clause-writes g c = λ plain ok. has_written_of_eq g.W.Write.write_str_gives _ _ _ _ (sym (options_text_none _ c.if-self-eq0.true)) (c.write-str.ensures.writes plain ok)
+returns-then-self-eq0-clause-writes g c = λ plain ok. has_written_of_eq g.W.Write.write_str_gives _ _ _ _ (sym (options_text_none _ c.if-self-eq0.true)) (c.write_str.ensures.writes plain ok)
 
 pub loop-option-init : goal.loop-option-init
 unfolding gap options_below
@@ -17,7 +17,7 @@ pub loop-option-preserved : goal.loop-option-preserved
 unfolding encode
 loop-option-preserved g c =
     elim c.if-has.branch [
-      | then-has+in-ok-write w ↦
+      | then-has+in_ok-write w ↦
           let more = options_more c.loop-option.option-counter c.args.self.now.0 (sym c.has.ensures ∙ w.if-has.true) in
           let next = options_gap c.loop-option.option-counter c.args.self.now.0 (sym c.has.ensures ∙ w.if-has.true) (omega arith) in (
             (32 ∷ [], (refl, sym (ap (λ s. s.now) w.gap-is))),
@@ -25,7 +25,7 @@ loop-option-preserved g c =
             λ plain.
                 let x = c.loop-option.invariant.2 plain in
                 has_written_of_eq g.W.Write.write_str_gives _ _ _ _ (ap (λ m. options_below c.loop-option.option-counter c.args.self.now.0 ++ (m ++ decimal c.loop-option.option-counter)) c.loop-option.invariant.1 ∙ sym more)
-                (has_written_to_eq g.W.Write.write_str_gives _ _ _ _ w.f-is (has_written_append g.W.Write.write_str_gives _ _ _ _ _ x (w.in-ok-write.ensures.shows x.plain refl))),
+                (has_written_to_eq g.W.Write.write_str_gives _ _ _ _ w.f-is (has_written_append g.W.Write.write_str_gives _ _ _ _ _ x (w.in_ok-write.ensures.shows x.plain refl))),
           )
       | else-has w ↦
           let same = options_same c.loop-option.option-counter c.args.self.now.0 (sym c.has.ensures ∙ w.if-has.false) in

@@ -4,4 +4,4 @@ use Rattle.tables.proofs.book.TableBookBook.scope.Goals as goal
 
 pub returns : goal.returns
 unfolding table_model
-returns c = ap (λ t. t.scope) c.rule-at.ensures
+returns c = ap (λ t. t.scope) c.rule_at.ensures

@@ -3,6 +3,6 @@ use Rattle.books.specs.Questions.{too_many, misfit, rules_fault}
 use Rattle.tables.specs.Table.{table_fault, bad_rows}
 use Rattle.tables.proofs.table.TableBook.empty.Goals as goal
 
-pub invariant-of-result : goal.invariant-of-result
+pub invariant_of-result : goal.invariant_of-result
 unfolding table_fault rules_fault too_many misfit bad_rows
-invariant-of-result c = (refl, tt)
+invariant_of-result c = record { sound = refl }

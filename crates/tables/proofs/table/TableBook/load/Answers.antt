@@ -15,26 +15,26 @@ returns-in-Some c =
       rules = sym (ap (λ f. loaded f c.args.rules.now c.args.self.now.rules.now) e);
     }
 
-pub bad-rows-requires : goal.bad-rows-requires
-bad-rows-requires c = (faultless (λ t. t.scope) 1 4 c.args.rules.now (ap is_some (sym c.rules_fault.ensures ∙ c.in-default.is))).0
+pub bad_rows-requires : goal.bad_rows-requires
+bad_rows-requires c = (faultless (λ t. t.scope) 1 4 c.args.rules.now (ap is_some (sym c.rules_fault.ensures ∙ c.in_default.is))).0
 
-pub returns-in-Some-bad-rows : goal.returns-in-Some-bad-rows
+pub returns-in-Some-bad_rows : goal.returns-in-Some-bad_rows
 unfolding table_fault
-returns-in-Some-bad-rows c =
-    let e : table_fault c.args.rows.now c.args.rules.now ≡ Some c.in-Some-bad-rows.refusal =
-    ap (λ f. first_of f (bad_rows c.args.rows.now 0 c.args.rules.now)) (sym c.rules_fault.ensures ∙ c.in-default.is) ∙ sym c.in-Some-bad-rows.ensures in
+returns-in-Some-bad_rows c =
+    let e : table_fault c.args.rows.now c.args.rules.now ≡ Some c.in-Some-bad_rows.refusal =
+    ap (λ f. first_of f (bad_rows c.args.rows.now 0 c.args.rules.now)) (sym c.rules_fault.ensures ∙ c.in_default.is) ∙ sym c.in-Some-bad_rows.ensures in
     record {
       answer = sym (ap (λ f. answered f tt) e);
       rows = sym (ap (λ f. loaded f c.args.rows.now c.args.self.now.rows.now) e);
       rules = sym (ap (λ f. loaded f c.args.rules.now c.args.self.now.rules.now) e);
     }
 
-pub invariant-of-self : goal.invariant-of-self
+pub invariant_of-self : goal.invariant_of-self
 unfolding table_fault
-invariant-of-self c = (
-  ap is_some
-      (ap (λ f. first_of f (bad_rows c.args.rows.now 0 c.args.rules.now)) (sym c.rules_fault.ensures ∙ c.in-default.is)
+invariant_of-self c = record {
+  sound =
+      ap is_some
+      (ap (λ f. first_of f (bad_rows c.args.rows.now 0 c.args.rules.now)) (sym c.rules_fault.ensures ∙ c.in_default.is)
       ∙ sym c.bad_rows.ensures
-      ∙ c.in-default-bad-rows.is),
-  tt,
-)
+      ∙ c.in_default-bad_rows.is);
+}

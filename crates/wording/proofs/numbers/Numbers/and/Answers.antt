@@ -10,7 +10,7 @@ same a b xs ys p q = cc
 pub returns : goal.returns
 unfolding and_number
 returns c =
-    same _ _ _ _ c.saturating-add.ensures
+    same _ _ _ _ c.saturating_add.ensures
     (elim c.if-self-lt4.branch [
       | then-self-lt4 w ↦ w.first-is ∙ rw (lt-ltb c.args.self.count 4 w.if-self-lt4.true)
       | else-self-lt4 w ↦ w.first-is ∙ rw (le-ltb c.args.self.count 4 w.if-self-lt4.false)

@@ -7,9 +7,9 @@ pub loop-word-init : goal.loop-word-init
 unfolding no_numbers
 loop-word-init c = refl
 
-pub returns-in-default : goal.returns-in-default
-returns-in-default c =
-    sym (no_number _ _ _ _ c.loop-word-test.true (sym c.byte.ensures ∙ c.in-default.is)) ∙ c.loop-word.invariant
+pub returns-in_default : goal.returns-in_default
+returns-in_default c =
+    sym (no_number _ _ _ _ c.loop-word-test.true (sym c.byte.ensures ∙ c.in_default.is)) ∙ c.loop-word.invariant
 
 pub loop-word-preserved : goal.loop-word-preserved
 loop-word-preserved c =

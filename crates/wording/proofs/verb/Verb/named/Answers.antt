@@ -40,16 +40,16 @@ pub returns-in-overview : goal.returns-in-overview
 unfolding verb_of verb_among
 returns-in-overview c = sym (ap verb_of c.in-overview.is)
 
-pub returns-in-default : goal.returns-in-default
+pub returns-in_default : goal.returns-in_default
 unfolding verb_of
-returns-in-default c = sym (unnamed c.args.word.now every_verb (λ v. elim v as (λ k. c.args.word.now ≡ name_of k → ⊥) [
-  | Table ↦ c.in-default.not-IsTable
-  | Gap ↦ c.in-default.not-gap
-  | Differ ↦ c.in-default.not-differ
-  | Open ↦ c.in-default.not-open
-  | Place ↦ c.in-default.not-place
-  | Pick ↦ c.in-default.not-pick
-  | Settle ↦ c.in-default.not-settle
-  | Standing ↦ c.in-default.not-standing
-  | Overview ↦ c.in-default.not-overview
+returns-in_default c = sym (unnamed c.args.word.now every_verb (λ v. elim v as (λ k. c.args.word.now ≡ name_of k → ⊥) [
+  | Table ↦ c.in_default.not-IsTable
+  | Gap ↦ c.in_default.not-gap
+  | Differ ↦ c.in_default.not-differ
+  | Open ↦ c.in_default.not-open
+  | Place ↦ c.in_default.not-place
+  | Pick ↦ c.in_default.not-pick
+  | Settle ↦ c.in_default.not-settle
+  | Standing ↦ c.in_default.not-standing
+  | Overview ↦ c.in_default.not-overview
 ]))
