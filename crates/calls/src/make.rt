@@ -43,8 +43,8 @@ pub fn overview<B: ReasoningBook>(sheet: &Sheet<'_, B>) -> Answer
 
 // Makes the call and says what it answered.
 pub fn make<B: ReasoningBook>(sheet: &mut Sheet<'_, B>, call: Call) -> Answer
-    ensures answer { result ≡ answer_of (B.Book.model sheet.old.book.now) (reasons sheet.old.book.now) call (view sheet.old.state) }
-    ensures after { view sheet.new.state ≡ after_call (B.Book.model sheet.old.book.now) (reasons sheet.old.book.now) call (view sheet.old.state) }
+    ensures answer { result ≡ answer_of (B.Book.model sheet.old.book.now) (B.reasons sheet.old.book.now) call (view sheet.old.state) }
+    ensures after { view sheet.new.state ≡ after_call (B.Book.model sheet.old.book.now) (B.reasons sheet.old.book.now) call (view sheet.old.state) }
     ensures book { sheet.new.book.now ≡ sheet.old.book.now }
 {
     match call {

@@ -62,7 +62,7 @@ fn visit_option_of<B: ReasoningBook>(
     option: u8,
 )
     requires { has (view state.old).placed rule ≡ true }
-    ensures { view state.new ≡ visit_option (B.Book.model book.now) (reasons book.now) rule position option (view state.old) }
+    ensures { view state.new ≡ visit_option (B.Book.model book.now) (B.reasons book.now) rule position option (view state.old) }
 {
     book.reasonable();
     let questions = state.scope(rule);
@@ -89,7 +89,7 @@ fn visit_option_of<B: ReasoningBook>(
 
 fn visit_position_of<B: ReasoningBook>(book: &B, state: &mut Record, rule: u8, position: u8)
     requires { has (view state.old).placed rule ≡ true }
-    ensures { view state.new ≡ visit_position (B.Book.model book.now) (reasons book.now) rule position (view state.old) }
+    ensures { view state.new ≡ visit_position (B.Book.model book.now) (B.reasons book.now) rule position (view state.old) }
 {
     for option in 0..32u8 {
         visit_option_of(book, state, rule, position, option);
@@ -98,7 +98,7 @@ fn visit_position_of<B: ReasoningBook>(book: &B, state: &mut Record, rule: u8, p
 
 fn visit_positions<B: ReasoningBook>(book: &B, state: &mut Record, rule: u8)
     requires { has (view state.old).placed rule ≡ true }
-    ensures { view state.new ≡ upto (visit_position (B.Book.model book.now) (reasons book.now) rule) (positions_of (noted_scope (view state.old) rule)) (view state.old) }
+    ensures { view state.new ≡ upto (visit_position (B.Book.model book.now) (B.reasons book.now) rule) (positions_of (noted_scope (view state.old) rule)) (view state.old) }
 {
     let positions = state.scope(rule).count.min(4);
     for position in 0..positions {
@@ -108,7 +108,7 @@ fn visit_positions<B: ReasoningBook>(book: &B, state: &mut Record, rule: u8)
 
 // One round over the placed rules; says whether it crossed anything.
 fn go_round<B: ReasoningBook>(book: &B, state: &mut Record) -> bool
-    ensures after { view state.new ≡ round (B.Book.model book.now) (reasons book.now) (view state.old) }
+    ensures after { view state.new ≡ round (B.Book.model book.now) (B.reasons book.now) (view state.old) }
     ensures answer { result ≡ not (length (view state.new).log == length (view state.old).log) }
 {
     let before = state.lines();
@@ -124,9 +124,9 @@ impl<'a, B: ReasoningBook> Sheet<'a, B> {
     // Crosses what no longer goes together. It asks the book only about standing options and ends after a round that
     // crosses nothing. From a valid log, what stands is then closed, and every other closed set lies within it.
     pub fn settle(&mut self)
-        ensures after { view self.new.state ≡ settled (B.Book.model self.old.book.now) (reasons self.old.book.now) (view self.old.state) }
+        ensures after { view self.new.state ≡ settled (B.Book.model self.old.book.now) (B.reasons self.old.book.now) (view self.old.state) }
         ensures book { self.new.book.now ≡ self.old.book.now }
-        ensures still { round (B.Book.model self.old.book.now) (reasons self.old.book.now) (view self.new.state) ≡ view self.new.state }
+        ensures still { round (B.Book.model self.old.book.now) (B.reasons self.old.book.now) (view self.new.state) ≡ view self.new.state }
         ensures valid { Valid (B.Book.model self.old.book.now) (view self.old.state) → Valid (B.Book.model self.old.book.now) (view self.new.state) }
         ensures closed { Valid (B.Book.model self.old.book.now) (view self.old.state) → Closed (B.Book.model self.old.book.now) (view self.new.state) (standing_each (view self.new.state)) }
         ensures greatest { Valid (B.Book.model self.old.book.now) (view self.old.state) → Greatest (B.Book.model self.old.book.now) (view self.new.state) (standing_each (view self.new.state)) }

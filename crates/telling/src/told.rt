@@ -26,7 +26,7 @@ impl Told {
         ensures text { OnOk result (IfSome (D.Display.output what) (λ bs. string_bytes self.new.text ≡ string_bytes self.old.text ++ (bs ++ 10 ∷ []))) }
         ensures sound { self.new.sound ≡ self.old.sound }
     {
-        written(self.text.writeln(what))
+        self.text.writeln(what)
     }
 
     // The command as it was written, and its answer.
@@ -38,7 +38,7 @@ impl Told {
         ensures text { OnOk result (IfSome (D.Display.output what) (λ bs. string_bytes self.new.text ≡ string_bytes self.old.text ++ (command.now ++ (codes ": " ++ (bs ++ 10 ∷ []))))) }
         ensures sound { self.new.sound ≡ self.old.sound }
     {
-        written(writeln!(self.text, "{command}: {what}"))
+        writeln!(self.text, "{command}: {what}")
     }
 
     // Something is wrong with the sitting itself.
@@ -51,16 +51,6 @@ impl Told {
         ensures sound { self.new.sound ≡ false }
     {
         self.sound = false;
-        written(writeln!(self.text, "line {number}: {what}"))
-    }
-}
-
-// Writing to a text fails only for want of memory.
-fn written(res: fmt::Result) -> Result<(), AllocError>
-    ensures { is_ok result ≡ is_ok res }
-{
-    match res {
-        Ok(()) => Ok(()),
-        Err(_) => Err(AllocError),
+        writeln!(self.text, "line {number}: {what}")
     }
 }

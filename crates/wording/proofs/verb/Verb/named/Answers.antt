@@ -43,7 +43,7 @@ returns-in-overview c = sym (ap verb_of c.in-overview.is)
 pub returns-in_default : goal.returns-in_default
 unfolding verb_of
 returns-in_default c = sym (unnamed c.args.word.now every_verb (λ v. elim v as (λ k. c.args.word.now ≡ name_of k → ⊥) [
-  | Table ↦ c.in_default.not-IsTable
+  | Table ↦ c.in_default.not-table
   | Gap ↦ c.in_default.not-gap
   | Differ ↦ c.in_default.not-differ
   | Open ↦ c.in_default.not-open
