@@ -18,8 +18,8 @@ returns-then-is_empty c =
 pub loop-written-init : goal.loop-written-init
 loop-written-init c =
     let s : Split ℕ = c.into_iter-written-iterator.result in
-    let b : s ≡ c.split-written-items.result = c.into_iter-written-iterator.ensures.into_iter-gives in
-    let live : split_has_more s ≡ true = ap split_has_more b ∙ c.split-written-items.ensures.Has-more in
+    let b : s ≡ c.split-written-items.result = c.into_iter-written-iterator.ensures.into_iter_gives in
+    let live : split_has_more s ≡ true = ap split_has_more b ∙ c.split-written-items.ensures.has_more in
     let text : split_text s ≡ c.args.text.now = ap split_text b ∙ c.split-written-items.ensures.text in
     (ap split_pattern b ∙ c.split-written-items.ensures.pattern, (λ i. rows_after c.args.count (c.new-rows.ensures.items i) (pieces_left (live i) (text i))))
 

@@ -17,7 +17,7 @@ pub loop-position-preserved : goal.loop-position-preserved
 loop-position-preserved g c = λ plain.
     let x = c.loop-position.invariant plain in
     has_written_of_eq g.W.Write.write_str_gives _ _ _ _ (sym (reason_more c.loop-position.position c.args.self.now.questions c.args.self.now.reason))
-    (has_written_append g.W.Write.write_str_gives _ _ _ _ _ x (c.in_ok-write.ensures.shows x.plain refl))
+    (has_written_append g.W.Write.write_str_gives _ _ _ _ _ x (c.in_ok-write.ensures.writes x.plain refl))
 
 pub returns-clause-writes : goal.returns-clause-writes
 returns-clause-writes g c = λ plain ok.

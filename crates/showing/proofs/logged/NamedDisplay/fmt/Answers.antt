@@ -15,7 +15,7 @@ loop-option-preserved g c = λ plain.
     elim c.if-has.branch [
       | then-has+in_ok-write w ↦
           has_written_of_eq g.W.Write.write_str_gives _ _ _ _ (sym (named_more c.loop-option.option-counter c.args.self.now.question c.args.self.now.mask (sym c.has.ensures ∙ w.if-has.true)))
-          (has_written_to_eq g.W.Write.write_str_gives _ _ _ _ w.f-is (has_written_append g.W.Write.write_str_gives _ _ _ _ _ x (w.in_ok-write.ensures.shows x.plain refl)))
+          (has_written_to_eq g.W.Write.write_str_gives _ _ _ _ w.f-is (has_written_append g.W.Write.write_str_gives _ _ _ _ _ x (w.in_ok-write.ensures.writes x.plain refl)))
       | else-has w ↦
           has_written_of_eq g.W.Write.write_str_gives _ _ _ _ (sym (named_same c.loop-option.option-counter c.args.self.now.question c.args.self.now.mask (sym c.has.ensures ∙ w.if-has.false)))
           (has_written_to_eq g.W.Write.write_str_gives _ _ _ _ w.f-is x)

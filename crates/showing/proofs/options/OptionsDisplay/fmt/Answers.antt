@@ -25,7 +25,7 @@ loop-option-preserved g c =
             λ plain.
                 let x = c.loop-option.invariant.2 plain in
                 has_written_of_eq g.W.Write.write_str_gives _ _ _ _ (ap (λ m. options_below c.loop-option.option-counter c.args.self.now.0 ++ (m ++ decimal c.loop-option.option-counter)) c.loop-option.invariant.1 ∙ sym more)
-                (has_written_to_eq g.W.Write.write_str_gives _ _ _ _ w.f-is (has_written_append g.W.Write.write_str_gives _ _ _ _ _ x (w.in_ok-write.ensures.shows x.plain refl))),
+                (has_written_to_eq g.W.Write.write_str_gives _ _ _ _ w.f-is (has_written_append g.W.Write.write_str_gives _ _ _ _ _ x (w.in_ok-write.ensures.writes x.plain refl))),
           )
       | else-has w ↦
           let same = options_same c.loop-option.option-counter c.args.self.now.0 (sym c.has.ensures ∙ w.if-has.false) in

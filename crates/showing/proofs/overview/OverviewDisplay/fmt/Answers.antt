@@ -15,13 +15,13 @@ loop-question-preserved g c = (
       let x = c.loop-question.invariant.1 plain in
       let h : 0 < c.loop-question.question = omega (arith, c.loop-question.auto.question) in
       has_written_of_eq g.W.Write.write_str_gives _ _ _ _ (sym (further_more c.loop-question.question c.args.self.now.masks h))
-      (has_written_append g.W.Write.write_str_gives _ _ _ _ _ x (c.in_ok-write-2.ensures.shows x.plain refl)),
+      (has_written_append g.W.Write.write_str_gives _ _ _ _ _ x (c.in_ok-write-2.ensures.writes x.plain refl)),
 )
 
 pub returns-clause-writes : goal.returns-clause-writes
 unfolding overview_text
 returns-clause-writes g c = λ plain ok.
-    let x = c.in_ok-write.ensures.shows plain refl in
+    let x = c.in_ok-write.ensures.writes plain refl in
     let n : c.loop-question.question - 1 ≡ min c.args.self.now.count 16 - 1 = omega (arith, c.min-question-end.ensures) in
     has_written_of_eq g.W.Write.write_str_gives _ _ _ _ (ap (λ k. options_text (get_or c.args.self.now.masks 0 0) ++ further k c.args.self.now.masks) n)
     (has_written_append g.W.Write.write_str_gives _ _ _ _ _ x (c.loop-question.invariant.1 x.plain))
