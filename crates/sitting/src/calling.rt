@@ -47,7 +47,7 @@ fn obey<B: ReasoningBook>(
     entry: Entry<'_>,
     command: Command,
 ) -> Result<(), AllocError>
-    ensures scene { OnOk result (record { state = view sheet.new.state; tale = tale told.new } ≡ called (B.Book.model sheet.old.book.now) (reasons sheet.old.book.now) (noted entry.entry) (call_in (said command)) (record { state = view sheet.old.state; tale = tale told.old })) }
+    ensures scene { OnOk result (record { state = view sheet.new.state; tale = tale told.new } ≡ called (B.Book.model sheet.old.book.now) (B.reasons sheet.old.book.now) (noted entry.entry) (call_in (said command)) (record { state = view sheet.old.state; tale = tale told.old })) }
     ensures book { sheet.new.book.now ≡ sheet.old.book.now }
 {
     match call_of(&command) {
@@ -63,7 +63,7 @@ fn obey_line<B: ReasoningBook>(
     sheet: &mut Sheet<'_, B>,
     entry: Entry<'_>,
 ) -> Result<(), AllocError>
-    ensures scene { OnOk result (record { state = view sheet.new.state; tale = tale told.new } ≡ obeyed (B.Book.model sheet.old.book.now) (reasons sheet.old.book.now) (noted entry.entry) (heard_of entry.entry.text.now) (record { state = view sheet.old.state; tale = tale told.old })) }
+    ensures scene { OnOk result (record { state = view sheet.new.state; tale = tale told.new } ≡ obeyed (B.Book.model sheet.old.book.now) (B.reasons sheet.old.book.now) (noted entry.entry) (heard_of entry.entry.text.now) (record { state = view sheet.old.state; tale = tale told.old })) }
     ensures book { sheet.new.book.now ≡ sheet.old.book.now }
 {
     match read(heap, entry.text)? {
@@ -79,7 +79,7 @@ pub(crate) fn obey_all<B: ReasoningBook>(
     sheet: &mut Sheet<'_, B>,
     entries: &[Entry<'_>],
 ) -> Result<(), AllocError>
-    ensures scene { OnOk result (record { state = view sheet.new.state; tale = tale told.new } ≡ all_obeyed (B.Book.model sheet.old.book.now) (reasons sheet.old.book.now) (map noted entries.now) (record { state = view sheet.old.state; tale = tale told.old })) }
+    ensures scene { OnOk result (record { state = view sheet.new.state; tale = tale told.new } ≡ all_obeyed (B.Book.model sheet.old.book.now) (B.reasons sheet.old.book.now) (map noted entries.now) (record { state = view sheet.old.state; tale = tale told.old })) }
     ensures book { sheet.new.book.now ≡ sheet.old.book.now }
 {
     for entry in entries {

@@ -30,7 +30,7 @@ fn attend<B: ReasoningBook>(
     sheet: &mut Sheet<'_, B>,
     calls: &[Entry<'_>],
 ) -> Result<(), AllocError>
-    ensures { OnOk result (tale told.new ≡ closing_told (B.Book.model book.now) (all_obeyed (B.Book.model sheet.old.book.now) (reasons sheet.old.book.now) (map noted calls.now) (record { state = view sheet.old.state; tale = tale told.old })).state (all_obeyed (B.Book.model sheet.old.book.now) (reasons sheet.old.book.now) (map noted calls.now) (record { state = view sheet.old.state; tale = tale told.old })).tale) }
+    ensures { OnOk result (tale told.new ≡ closing_told (B.Book.model book.now) (all_obeyed (B.Book.model sheet.old.book.now) (B.reasons sheet.old.book.now) (map noted calls.now) (record { state = view sheet.old.state; tale = tale told.old })).state (all_obeyed (B.Book.model sheet.old.book.now) (B.reasons sheet.old.book.now) (map noted calls.now) (record { state = view sheet.old.state; tale = tale told.old })).tale) }
 {
     obey_all(heap, told, sheet, calls)?;
     close(told, book, sheet)
@@ -45,7 +45,7 @@ fn open_on<B: ReasoningBook>(
     sizes: &[u8],
     calls: &[Entry<'_>],
 ) -> Result<bool, AllocError>
-    ensures { IfOk result (λ done. record { done = done; tale = tale told.new } ≡ on_book (B.Book.model book.now) (reasons book.now) (noted entry.entry) sizes.now (map noted calls.now) (tale told.old)) }
+    ensures { IfOk result (λ done. record { done = done; tale = tale told.new } ≡ on_book (B.Book.model book.now) (B.reasons book.now) (noted entry.entry) sizes.now (map noted calls.now) (tale told.old)) }
 {
     match Sheet::open(book, sizes) {
         Ok(mut sheet) => {
