@@ -1,5 +1,5 @@
 -- A log fits 512 lines. Assumes nothing.
-use Rattle.std.proofs.Common.{◌≡◌, ◌≤◌, false, ltb, List, ◌++◌, length, take, drop, None, ap, ◌∙◌, arith, length-append, le-ltb}
+use Rattle.std.proofs.Common.{◌≡◌, ◌≤◌, List, ◌++◌, length, take, drop, None, ap, ◌∙◌, arith, length-append, le-ltb}
 use Rattle.std.proofs.lemmas.List.{take_all, take-append-le}
 use Rattle.terms.specs.declared.line.Line.{Line}
 use Rattle.terms.specs.declared.refusal.Refusal.TheVariants.{TooFewLines}

@@ -1,5 +1,5 @@
 -- What a call answers, and what it leaves. Assumes nothing.
-use Rattle.std.specs.Prelude.{ℕ, length, Some, None, Option, slice_index}
+use Rattle.std.specs.Prelude.{length, Some, None, Option, slice_index}
 use Rattle.terms.specs.declared.refusal.Refusal.{Refusal}
 use Rattle.books.specs.Plain.{Plain}
 use Rattle.record.specs.State.{State}

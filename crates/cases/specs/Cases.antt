@@ -10,7 +10,7 @@ use Rattle.gaps.specs.Gap.{gap_model, gap_reasons}
 use Rattle.differs.specs.Differ.{differ_model, differ_reasons}
 use Rattle.books.specs.Pair.{pair_model, pair_reasons}
 use Rattle.sheet.specs.Settle.{Reasons}
-use Rattle.cases.specs.Steps.{Step, Step.place, Step.pick, Step.settle, Case, outcome}
+use Rattle.cases.specs.Steps.{Step, Step.place, Step.settle, Case, outcome}
 
 abbrev two : ℕ → ℕ → Scope
 two a b = record { count = 2; questions = a ∷ b ∷ 0 ∷ 0 ∷ [] }

@@ -1,6 +1,5 @@
 -- Calls made one after the other on a new sheet, by the definitions that the sheet's contracts cite. Assumes nothing.
 use Rattle.std.specs.Prelude.{ℕ, List, [], ◌∷◌, map, take}
-use Rattle.terms.specs.declared.line.Line.{Line}
 use Rattle.books.specs.Plain.{Plain}
 use Rattle.record.specs.State.{State}
 use Rattle.record.specs.Told.{unless}

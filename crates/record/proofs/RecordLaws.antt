@@ -1,15 +1,15 @@
 -- What holds of a record holds of its plain values. Assumes nothing.
-use Rattle.std.proofs.Common.{◌≡◌, ℕ, ◌+◌, ◌<◌, ◌≤◌, true, List, [], ◌∷◌, ◌++◌, length, get_or, take, set, sym, refl, ap, ◌∙◌, subst, ap₂, subst₂, arith}
-use Rattle.std.proofs.lemmas.List.{length-set, length-take, length-take-le, length_push, take_more_set}
+use Rattle.std.proofs.Common.{◌≡◌, ℕ, ◌+◌, ◌<◌, ◌≤◌, true, List, [], ◌∷◌, ◌++◌, length, get_or, take, set, sym, ap, ◌∙◌, subst₂, arith}
+use Rattle.std.proofs.lemmas.List.{length-set, length-take-le, length_push, take_more_set}
 use Rattle.terms.specs.Masks.{with}
 use Rattle.terms.specs.declared.line.Line.{Line}
-use Rattle.record.specs.State.{State, total}
+use Rattle.record.specs.State.{total}
 use Rattle.record.specs.Sound.{Sound, Heads, Declared, Once, Backed}
 use Rattle.record.specs.Calls.{admissible, pushed}
 use Rattle.record.specs.View.{view}
 use Rattle.record.specs.declared.state.Record.{Record}
 use Rattle.record.proofs.Heads.{total_le}
-use Rattle.record.proofs.SoundLaws.{push_heads, push_declared, push_once, push_backed, push_counted, push_room, head_question}
+use Rattle.record.proofs.SoundLaws.{push_heads, push_declared, push_once, push_backed, push_counted, push_room}
 
 -- what is owed of the fields where a line was written: of the crossed masks, the log, and its lines
 pub record Owed (r : Record) (cs : List ℕ) (log t : List Line) : Type 0 where

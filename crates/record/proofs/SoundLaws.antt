@@ -1,12 +1,12 @@
 -- A line that may come next keeps what holds of a sheet. Assumes nothing.
-use Rattle.std.proofs.Common.{◌≡◌, ℕ, zero, suc, ◌+◌, ◌*◌, ◌<◌, ◌≤◌, Bool, true, false, cond, not, ◌&&◌, ◌||◌, eqb, ltb, ◌≢◌, ◌⊎◌, List, [], ◌∷◌, ◌++◌, length, get_or, take, set, sym, refl, ap, ◌∙◌, subst, ap₂, inl, inr, arith}
-use Rattle.std.proofs.lemmas.List.{length-set, get_or-set_same, get_or-set_other, get_or_append_left, get_or_push, length_push, take-append-le, take_at, get_or_past}
-use Rattle.std.proofs.lemmas.Bool.{both_ways, not-true, and_parts, and_from, ltb-true, lt-ltb, le-ltb, eq-eqb, ne_eqb, cases_eq, cases_lt, cases_order, cases_Bool, cond-true, cond-false, or_left, or_right}
-use Rattle.terms.specs.Masks.{has, with, within_each, held, with_rule}
+use Rattle.std.proofs.Common.{◌≡◌, ℕ, ◌<◌, Bool, true, false, not, ◌&&◌, ◌||◌, eqb, ltb, List, [], ◌∷◌, ◌++◌, length, get_or, take, set, sym, refl, ap, ◌∙◌, subst, ap₂, inl, inr, arith}
+use Rattle.std.proofs.lemmas.List.{length-set, get_or-set_same, get_or-set_other, length_push, get_or_past}
+use Rattle.std.proofs.lemmas.Bool.{both_ways, not-true, and_parts, and_from, ltb-true, lt-ltb, eq-eqb, ne_eqb, cases_eq, cases_lt, cond-true, cond-false, or_left, or_right}
+use Rattle.terms.specs.Masks.{has, with, within_each, with_rule}
 use Rattle.terms.specs.Scopes.{positions_of, question_at, mask_at, masks_at}
 use Rattle.terms.specs.declared.line.Line.{Line}
 use Rattle.terms.specs.declared.scope.Scope.{Scope}
-use Rattle.terms.proofs.MaskLaws.{has_none, has-with, has-with_rule, held_with, held_le, within_each_holds}
+use Rattle.terms.proofs.MaskLaws.{has_none, has-with, has-with_rule, held_with, within_each_holds}
 use Rattle.terms.proofs.ScopeLaws.{masks_below, mask_here, mask_past}
 use Rattle.record.specs.State.{State, no_line, unscoped, headed, total}
 use Rattle.record.specs.Sound.{Sound, Heads, Declared, Once, Backed, implies, grounded}

@@ -1,13 +1,13 @@
 -- What each call on the record does, from plain values. Assumes nothing.
-use Rattle.std.specs.Prelude.{ℕ, suc, ◌-◌, Bool, true, false, cond, not, ◌&&◌, ◌||◌, List, [], ◌∷◌, ◌++◌, length, take, drop, replicate, is_some, Some, None, Option, ◌==◌, nat_lt, slice_index, slice_index_or, slice_set}
-use Rattle.terms.specs.Masks.{has, with, less, declared, less_each, declared_each, within_each, with_rule}
+use Rattle.std.specs.Prelude.{ℕ, suc, ◌-◌, Bool, true, cond, not, ◌&&◌, ◌||◌, List, [], ◌∷◌, ◌++◌, length, take, drop, replicate, is_some, Some, None, Option, ◌==◌, nat_lt, slice_index, slice_index_or, slice_set}
+use Rattle.terms.specs.Masks.{has, with, less_each, declared_each, within_each, with_rule}
 use Rattle.terms.specs.Scopes.{questions_of, masks_at}
 use Rattle.terms.specs.declared.line.Line.{Line}
 use Rattle.terms.specs.declared.scope.Scope.{Scope}
 use Rattle.terms.specs.declared.refusal.Refusal.{Refusal}
 use Rattle.terms.specs.declared.refusal.Refusal.TheVariants.{QuestionCount, SizeOutOfRange, NoSuchQuestion, NoSuchOption, NoSuchRule, RuleOffSheet, PlacementStands, PickStands, TooFewLines}
 use Rattle.record.specs.State.{State, unscoped}
-use Rattle.record.specs.Told.{refuse, unless}
+use Rattle.record.specs.Told.{refuse}
 
 -- opening
 

@@ -1,5 +1,5 @@
 -- What holds of every sheet at all times. Assumes nothing.
-use Rattle.std.specs.Prelude.{◌≡◌, ℕ, ◌<◌, ◌≤◌, Bool, true, false, ◌&&◌, List, [], ◌∷◌, length, get_or, take, Some, None, Option, nat_lt, slice_index, slice_index_or}
+use Rattle.std.specs.Prelude.{◌≡◌, ℕ, ◌<◌, ◌≤◌, Bool, true, false, ◌&&◌, List, length, get_or, take, Some, None, Option, nat_lt, slice_index, slice_index_or}
 use Rattle.terms.specs.Masks.{has}
 use Rattle.terms.specs.Scopes.{positions_of, question_at}
 use Rattle.terms.specs.declared.line.Line.{Line}

@@ -1,5 +1,5 @@
 -- A sheet by plain values: the problem, and what has been crossed with the log of why. Assumes nothing.
-use Rattle.std.specs.Prelude.{ℕ, ◌+◌, Bool, true, false, ◌&&◌, ◌||◌, List, [], ◌∷◌, Option, ◌==◌}
+use Rattle.std.specs.Prelude.{ℕ, ◌+◌, Bool, false, ◌&&◌, ◌||◌, List, [], ◌∷◌, Option, ◌==◌}
 use Rattle.terms.specs.Masks.{held}
 use Rattle.terms.specs.declared.line.Line.{Line}
 use Rattle.terms.specs.declared.scope.Scope.{Scope}

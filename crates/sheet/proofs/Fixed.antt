@@ -1,23 +1,21 @@
 -- Where settling ends, nothing more is crossed, and what stands is closed. Assumes nothing.
-use Rattle.std.proofs.Common.{◌≡◌, ℕ, zero, suc, ◌+◌, ◌<◌, ◌≤◌, Bool, true, false, not, ◌&&◌, eqb, ◌⊎◌, List, [], ◌∷◌, length, get_or, set, Some, None, Option, sym, refl, ap, ◌∙◌, subst, ap₂, inl, inr, not-suc-le-zero, arith}
-use Rattle.std.proofs.lemmas.List.{length_push, get_or-set_same}
-use Rattle.std.proofs.lemmas.Bool.{both_ways, and_parts, and_from, and_cases, not-false, not-true, eqb-true, eqb-false, eq-eqb, cases_Bool, cases_eq, cases_lt, or_right, not_from_false}
-use Rattle.terms.specs.Masks.{has, with}
+use Rattle.std.proofs.Common.{◌≡◌, ℕ, zero, suc, ◌+◌, ◌<◌, ◌≤◌, true, false, not, ◌&&◌, eqb, length, get_or, Some, None, Option, sym, refl, ap, ◌∙◌, subst, inl, inr, not-suc-le-zero, arith}
+use Rattle.std.proofs.lemmas.List.{length_push}
+use Rattle.std.proofs.lemmas.Bool.{both_ways, and_parts, and_from, and_cases, not-false, eqb-true, eqb-false, cases_Bool, cases_eq, cases_lt}
+use Rattle.terms.specs.Masks.{has}
 use Rattle.terms.specs.Scopes.{positions_of, question_at, mask_at, masks_at}
-use Rattle.terms.specs.declared.line.Line.{Line}
-use Rattle.terms.proofs.MaskLaws.{has-with}
 use Rattle.terms.proofs.ScopeLaws.{mask_here}
-use Rattle.books.specs.Plain.{Plain, Lawful, positions}
+use Rattle.books.specs.Plain.{Plain, Lawful}
 use Rattle.books.specs.Reasons.{Reasonable}
-use Rattle.record.specs.State.{State, unscoped}
+use Rattle.record.specs.State.{State}
 use Rattle.record.specs.Sound.{Sound}
 use Rattle.record.specs.Calls.{pushed, standing_each}
 use Rattle.record.proofs.Heads.{total_le}
 use Rattle.record.proofs.OpenLaws.{some_none}
 use Rattle.record.proofs.SoundLaws.{push_sound, push_head}
 use Rattle.sheet.specs.Settle.{Reasons, upto, pick_line, rule_line, noted_scope, standing_masks, cross_other, pick_question, pick_lines, visit_option, visit_position, visit_rule, round, rounds, settled}
-use Rattle.sheet.specs.Valid.{Noted, Valid}
-use Rattle.sheet.specs.Closed.{Closed, Holds, Greatest}
+use Rattle.sheet.specs.Valid.{Valid}
+use Rattle.sheet.specs.Closed.{Closed, Greatest}
 use Rattle.sheet.proofs.Later.{Later, later_same, later_on, later_push, later_lines, later_still, upto_later, upto_still, upto_keeps}
 use Rattle.sheet.proofs.Lines.{pick_admissible}
 use Rattle.sheet.proofs.Keeps.{by_test, cross_other_keeps, pick_question_keeps, pick_lines_sound, round_sound, settled_sound, settled_valid}

@@ -1,18 +1,17 @@
 -- Settling keeps what holds of a sheet, and a valid log valid. Assumes nothing.
-use Rattle.std.proofs.Common.{◌≡◌, ℕ, zero, suc, ◌<◌, Bool, true, false, not, ◌&&◌, eqb, List, [], ◌∷◌, length, get_or, Some, None, Option, sym, refl, ap, ◌∙◌, subst}
+use Rattle.std.proofs.Common.{◌≡◌, ℕ, zero, suc, Bool, true, false, not, ◌&&◌, eqb, length, get_or, Some, None, Option, refl}
 use Rattle.std.proofs.lemmas.Bool.{and_parts, not-true, eqb-false}
 use Rattle.terms.specs.Masks.{has}
 use Rattle.terms.specs.Scopes.{positions_of, mask_at}
-use Rattle.terms.specs.declared.line.Line.{Line}
-use Rattle.books.specs.Plain.{Plain, Lawful}
+use Rattle.books.specs.Plain.{Plain}
 use Rattle.books.specs.Reasons.{Reasonable}
 use Rattle.record.specs.State.{State}
 use Rattle.record.specs.Sound.{Sound}
 use Rattle.record.specs.Calls.{pushed, standing_each}
 use Rattle.record.proofs.SoundLaws.{push_sound}
 use Rattle.sheet.specs.Settle.{Reasons, upto, pick_line, rule_line, noted_scope, standing_masks, cross_other, pick_question, pick_lines, visit_option, visit_position, visit_rule, round, rounds, settled}
-use Rattle.sheet.specs.Valid.{Valid, ValidLine, ValidLine.by_pick}
-use Rattle.sheet.proofs.Later.{Later, upto_keeps}
+use Rattle.sheet.specs.Valid.{Valid, ValidLine.by_pick}
+use Rattle.sheet.proofs.Later.{upto_keeps}
 use Rattle.sheet.proofs.Lines.{push_valid, pick_admissible, rule_admissible, rule_follows, reason_four}
 
 pub by_test : (P : State → Type 0) (t : Bool) (a b : State) → (t ≡ true → P a) → (t ≡ false → P b) → P (elim t [ true ↦ a | false ↦ b ])

@@ -1,16 +1,16 @@
 -- The lines that settling writes may come next, and follow. Assumes nothing.
-use Rattle.std.proofs.Common.{◌≡◌, ℕ, ◌<◌, ◌≤◌, Bool, true, false, cond, not, ◌&&◌, eqb, ltb, ◌⊎◌, List, [], ◌∷◌, ◌++◌, length, get_or, take, Some, None, sym, refl, ap, ◌∙◌, subst, ap₂, inl, inr, arith}
+use Rattle.std.proofs.Common.{◌≡◌, ℕ, ◌<◌, Bool, true, false, not, List, length, get_or, None, sym, refl, ap, ◌∙◌, subst, ap₂, inl, inr, arith}
 use Rattle.std.proofs.lemmas.List.{get_or_past}
-use Rattle.std.proofs.lemmas.Bool.{both_ways, not-true, and_from, lt-ltb, ltb-true, cases_lt, cases_Bool, cond-true, not_from_false}
-use Rattle.terms.specs.Masks.{has, less_each, within_each, declared_each}
+use Rattle.std.proofs.lemmas.Bool.{both_ways, and_from, lt-ltb, cases_lt, cases_Bool, cond-true}
+use Rattle.terms.specs.Masks.{has, less_each, declared_each}
 use Rattle.terms.specs.Scopes.{positions_of, question_at, mask_at, masks_at}
 use Rattle.terms.specs.declared.line.Line.{Line}
 use Rattle.terms.specs.declared.scope.Scope.{Scope}
 use Rattle.terms.proofs.MaskLaws.{has_none, holds_within_each}
 use Rattle.terms.proofs.ScopeLaws.{masks_below, mask_here, mask_past}
 use Rattle.books.specs.Plain.{Plain, positions}
-use Rattle.books.specs.Reasons.{owed, Explains, Reasonable, no_reason}
-use Rattle.record.specs.State.{State, no_line, unscoped, headed}
+use Rattle.books.specs.Reasons.{owed, Reasonable, no_reason}
+use Rattle.record.specs.State.{State, headed}
 use Rattle.record.specs.Sound.{Sound}
 use Rattle.record.specs.Calls.{admissible, crossed_at, pushed, standing_each}
 use Rattle.record.proofs.Heads.{each_push, unreasoned}

@@ -1,8 +1,8 @@
 -- Opening, placing and picking keep a log valid. Assumes nothing.
-use Rattle.std.proofs.Common.{◌≡◌, ℕ, ◌<◌, ◌≤◌, Bool, true, false, not, ◌||◌, eqb, ltb, ◌⊎◌, List, [], ◌∷◌, length, get_or, take, set, is_some, Some, None, Option, sym, refl, ap, ◌∙◌, subst, ap₂, inl, inr, not-suc-le-zero, arith}
+use Rattle.std.proofs.Common.{◌≡◌, ℕ, ◌<◌, ◌≤◌, false, not, eqb, ltb, List, length, get_or, take, is_some, Some, None, Option, sym, refl, ap, ◌∙◌, subst, inl, inr, not-suc-le-zero, arith}
 use Rattle.std.proofs.lemmas.List.{get_or-set_same, get_or-set_other}
-use Rattle.std.proofs.lemmas.Bool.{both_ways, or_cases, or_left, eqb-true, ltb-true, lt-ltb, le-ltb, not-true, not-false, cases_eq}
-use Rattle.terms.specs.Masks.{has, with_rule}
+use Rattle.std.proofs.lemmas.Bool.{both_ways, or_cases, or_left, eqb-true, ltb-true, lt-ltb, le-ltb, not-false}
+use Rattle.terms.specs.Masks.{has}
 use Rattle.terms.specs.Scopes.{questions_of}
 use Rattle.terms.specs.declared.line.Line.{Line}
 use Rattle.terms.specs.declared.refusal.Refusal.{Refusal}

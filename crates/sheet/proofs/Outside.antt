@@ -1,9 +1,9 @@
 -- No closed set holds a head of a valid log. Assumes nothing.
-use Rattle.std.proofs.Common.{◌≡◌, ℕ, zero, suc, ◌+◌, ◌<◌, ◌≤◌, Bool, true, false, not, ◌&&◌, ◌||◌, eqb, ltb, ◌⊎◌, List, [], ◌∷◌, ◌++◌, length, get_or, take, sym, refl, ap, ◌∙◌, subst, ap₂, inl, inr, add-one, arith}
+use Rattle.std.proofs.Common.{◌≡◌, ℕ, zero, suc, ◌<◌, ◌≤◌, true, false, not, ◌&&◌, eqb, List, [], ◌∷◌, ◌++◌, length, get_or, take, sym, refl, ap, ◌∙◌, ap₂, inl, inr, add-one, arith}
 use Rattle.std.proofs.lemmas.List.{take_more, take_all}
 use Rattle.std.proofs.lemmas.Bool.{both_ways, and_from, and_parts, or_cases, eqb-true, lt-ltb, cases_Bool}
-use Rattle.terms.specs.Masks.{has, less, less_each, declared_each}
-use Rattle.terms.specs.Scopes.{positions_of, question_at, mask_at, masks_at}
+use Rattle.terms.specs.Masks.{has, less_each, declared_each}
+use Rattle.terms.specs.Scopes.{question_at, masks_at}
 use Rattle.terms.specs.declared.line.Line.{Line}
 use Rattle.terms.proofs.MaskLaws.{has-less, get_or-less_each}
 use Rattle.terms.proofs.ScopeLaws.{masks_below, mask_here}
@@ -14,7 +14,7 @@ use Rattle.record.specs.Calls.{standing_each}
 use Rattle.record.proofs.Heads.{headed_push}
 use Rattle.sheet.specs.Settle.{declared_masks}
 use Rattle.sheet.specs.Valid.{Valid, ValidLine, ValidLine.by_pick, ValidLine.by_rule}
-use Rattle.sheet.specs.Closed.{Closed, Holds, Greatest}
+use Rattle.sheet.specs.Closed.{Closed, Greatest}
 use Rattle.sheet.proofs.Standing.{declared_has, stands}
 
 -- a set holds none of the heads

@@ -1,9 +1,8 @@
 -- What stands: declared and not crossed. Assumes nothing.
-use Rattle.std.proofs.Common.{◌≡◌, ℕ, ◌<◌, ◌≤◌, min, Bool, true, false, cond, not, ◌&&◌, eqb, ltb, ◌⊎◌, List, [], ◌∷◌, length, get_or, sym, refl, ap, ◌∙◌, subst, ap₂, inl, inr, arith}
-use Rattle.std.proofs.lemmas.Bool.{both_ways, not-true, and_parts, and_from, not_from_false, ltb-true, lt-ltb, le-ltb, cases_lt, cases_Bool}
-use Rattle.std.proofs.lemmas.Bool.Decides.{nat_tests}
-use Rattle.terms.specs.Masks.{has, less, less_each, declared_each, declared}
-use Rattle.terms.specs.Scopes.{positions_of, question_at, mask_at, masks_at}
+use Rattle.std.proofs.Common.{◌≡◌, ℕ, ◌<◌, min, true, false, cond, not, ◌&&◌, ltb, get_or, sym, ap, ◌∙◌, inl, inr, arith}
+use Rattle.std.proofs.lemmas.Bool.{both_ways, not-true, and_parts, and_from, ltb-true, lt-ltb, le-ltb, cases_lt, cases_Bool}
+use Rattle.terms.specs.Masks.{has, declared_each, declared}
+use Rattle.terms.specs.Scopes.{positions_of, question_at}
 use Rattle.terms.specs.declared.scope.Scope.{Scope}
 use Rattle.terms.proofs.MaskLaws.{has_none, has-less, has-declared, get_or-declared_each, get_or-less_each}
 use Rattle.terms.proofs.ScopeLaws.{mask_here, mask_past, masks_below}

@@ -1,5 +1,5 @@
 -- Sets of options that hold together. Assumes nothing.
-use Rattle.std.specs.Prelude.{◌≡◌, ℕ, ◌<◌, Bool, true, List, Some, None, slice_index, slice_index_or}
+use Rattle.std.specs.Prelude.{◌≡◌, ℕ, ◌<◌, true, List, Some, None, slice_index, slice_index_or}
 use Rattle.terms.specs.Masks.{has}
 use Rattle.terms.specs.Scopes.{question_at, masks_at}
 use Rattle.books.specs.Plain.{Plain, Supported, positions}

@@ -1,5 +1,5 @@
 -- What settling does, step by step with the masks of the moment. Assumes nothing.
-use Rattle.std.specs.Prelude.{ℕ, zero, suc, Bool, true, false, not, ◌&&◌, List, [], ◌∷◌, length, Some, None, ◌==◌, slice_index, slice_index_or}
+use Rattle.std.specs.Prelude.{ℕ, zero, suc, true, false, not, ◌&&◌, List, [], ◌∷◌, length, Some, None, ◌==◌, slice_index, slice_index_or}
 use Rattle.terms.specs.Masks.{has, declared_each}
 use Rattle.terms.specs.Scopes.{positions_of, question_at, mask_at, masks_at}
 use Rattle.terms.specs.declared.line.Line.{Line}

@@ -1,5 +1,5 @@
 -- A log that follows from the picks and the placed rules. Assumes nothing.
-use Rattle.std.specs.Prelude.{◌≡◌, ℕ, ◌<◌, Bool, true, false, List, length, get_or, take, Some, None, ◌≢◌, slice_index, slice_index_or}
+use Rattle.std.specs.Prelude.{◌≡◌, ℕ, ◌<◌, true, false, List, length, get_or, take, Some, None, ◌≢◌, slice_index, slice_index_or}
 use Rattle.terms.specs.Masks.{has, less_each}
 use Rattle.terms.specs.Scopes.{questions_of, question_at}
 use Rattle.terms.specs.declared.line.Line.{Line}

@@ -1,5 +1,5 @@
 -- What a sitting tells, as plain values. Assumes nothing.
-use Rattle.std.specs.Prelude.{ℕ, Bool, true, false, List, [], ◌∷◌, ◌++◌, string_bytes, codes, decimal}
+use Rattle.std.specs.Prelude.{ℕ, Bool, false, List, [], ◌∷◌, ◌++◌, string_bytes, codes, decimal}
 use Rattle.telling.specs.declared.told.Told.{Told}
 
 -- the text so far, and whether every line was read and the book taken

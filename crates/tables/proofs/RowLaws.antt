@@ -1,7 +1,7 @@
 -- What rows of a table hold, and how the tests on them go. Assumes nothing.
 use Rattle.std.proofs.Common.{◌≡◌, ℕ, zero, suc, ◌+◌, ◌*◌, ◌/◌, ◌%◌, ◌^◌, ◌<◌, Bool, true, false, not, eqb, ltb, ◌⊎◌, List, [], ◌∷◌, length, get_or, set, is_some, Some, None, Option, sym, refl, ap, ◌∙◌, subst, inl, inr, le_of_suc-le-suc, not-suc-le-zero, div-one, add-one, arith, shr-shr}
 use Rattle.std.proofs.lemmas.Bool.{and_parts, and_from, cases_Bool, cases_eq, true≢false, false≢true, lt-ltb, ltb-true, eq-eqb, eqb-true}
-use Rattle.terms.specs.Masks.{has, with}
+use Rattle.terms.specs.Masks.{with}
 use Rattle.tables.specs.Table.{option_at, options_of, same_options, some_row, all_rows, fits_at, unfit, row_supports, sound_at, sound_upto, note_row, note_rows}
 
 -- as the code reads it: shifted down, the lowest byte

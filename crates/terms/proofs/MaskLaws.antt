@@ -1,11 +1,11 @@
 -- What masks hold, for everything above: no proof outside these two files opens a power of two. Assumes nothing.
-use Rattle.std.proofs.Common.{◌≡◌, ℕ, zero, suc, ◌+◌, ◌-◌, ◌*◌, ◌/◌, ◌%◌, ◌^◌, ◌<◌, ◌≤◌, min, Bool, true, false, cond, not, ◌&&◌, ◌||◌, eqb, ltb, ◌⊎◌, List, [], ◌∷◌, length, get_or, set, replicate, sym, refl, ap, ◌∙◌, subst, ap₂, inl, inr, le_of_suc-le-suc, not-suc-le-zero, mod-eq_of_lt, pow-suc, one-add, arith, pow_pos, pow_mono}
+use Rattle.std.proofs.Common.{◌≡◌, ℕ, zero, suc, ◌+◌, ◌-◌, ◌/◌, ◌%◌, ◌^◌, ◌<◌, ◌≤◌, min, Bool, true, false, cond, not, ◌&&◌, ◌||◌, eqb, ltb, List, [], ◌∷◌, length, get_or, set, replicate, sym, refl, ap, ◌∙◌, subst, ap₂, inl, inr, le_of_suc-le-suc, not-suc-le-zero, mod-eq_of_lt, pow-suc, one-add, arith, pow_pos, pow_mono}
 use lib.Bits.{bit_and, bit_or, bit_xor, or_lt, xor_lt, and_le_l, and_zero_r, and_zero_l, xor_zero_r}
 use lib.Dec.{leb-suc-suc}
 use lib.Pow.{pow-lt, mod-pow-add}
 use lib.Count.{ones, ones-le, ones_cat, ones-ones}
 use Rattle.std.proofs.lemmas.Nat.{mod_below}
-use Rattle.std.proofs.lemmas.Bool.{eqb-true, eq-eqb, ne_eqb, eqb-false, lt-ltb, le-ltb, ltb-true, cond-true, cases_Bool, cases_lt, and_parts, and_from, or_left}
+use Rattle.std.proofs.lemmas.Bool.{eqb-true, eq-eqb, lt-ltb, le-ltb, cond-true, cases_lt, and_parts, and_from, or_left}
 use Rattle.std.proofs.lemmas.Bool.Decides.{nat_tests}
 use Rattle.terms.specs.Masks.{has, with, without, less, within, declared, held, held_below, declared_each, less_each, within_each, with_rule}
 use Rattle.terms.proofs.Bits.{has-and, has-or, has-xor, has-pow, has-ones, has_high, has-zero, has_rest, has_shifted, same_bits}

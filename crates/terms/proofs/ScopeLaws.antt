@@ -1,8 +1,8 @@
 -- The masks of a rule's questions, by position. Assumes nothing.
-use Rattle.std.proofs.Common.{◌≡◌, ℕ, zero, suc, ◌<◌, ◌≤◌, min, Bool, true, false, cond, ltb, List, [], ◌∷◌, length, get_or, take, sym, refl, ap, ◌∙◌, subst, ap₂, arith}
-use Rattle.std.proofs.lemmas.List.{length-take, get_or-take, get_or_past}
+use Rattle.std.proofs.Common.{◌≡◌, ℕ, zero, suc, ◌<◌, ◌≤◌, min, List, length, get_or, sym, refl, ap, ◌∙◌, arith}
+use Rattle.std.proofs.lemmas.List.{length-take}
 use Rattle.std.proofs.lemmas.Bool.{lt-ltb, le-ltb, cond-true, cond-false}
-use Rattle.terms.specs.Scopes.{questions_of, positions_of, question_at, mask_at, masks_at}
+use Rattle.terms.specs.Scopes.{positions_of, question_at, mask_at, masks_at}
 use Rattle.terms.specs.declared.scope.Scope.{Scope}
 
 pub positions_le : (s : Scope) → positions_of s ≤ s.count

@@ -1,4 +1,4 @@
-use Rattle.std.proofs.Common.{◌≡◌, ℕ, Some, None, sym, refl, ◌∙◌, arith}
+use Rattle.std.proofs.Common.{◌≡◌, ℕ, Some, None, refl, ◌∙◌, arith}
 use Rattle.calls.proofs.LogLaws.{fits_all}
 use Rattle.calls.proofs.make.line_count.Goals as goal
 

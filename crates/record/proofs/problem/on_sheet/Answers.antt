@@ -1,7 +1,6 @@
-use Rattle.std.proofs.Common.{◌≡◌, ℕ, ◌+◌, ◌-◌, ◌<◌, ◌≤◌, min, true, false, ◌&&◌, ltb, List, length, get_or, take, drop, sym, refl, ap, ◌∙◌, ap₂, inl, inr, arith, rules}
-use Rattle.std.proofs.lemmas.List.{drop_more, drop_all, take_all, take-take}
+use Rattle.std.proofs.Common.{◌≡◌, ℕ, ◌+◌, ◌-◌, ◌<◌, min, ◌&&◌, ltb, List, length, get_or, take, drop, sym, ap, ◌∙◌, inl, inr, arith, rules}
+use Rattle.std.proofs.lemmas.List.{drop_more, drop_all, take_all}
 use Rattle.std.proofs.lemmas.Bool.{lt-ltb, le-ltb, cases_lt}
-use Rattle.terms.specs.Scopes.{questions_of}
 use Rattle.record.specs.Calls.{all_below}
 use Rattle.record.proofs.problem.on_sheet.Goals as goal
 

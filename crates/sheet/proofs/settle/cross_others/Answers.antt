@@ -1,4 +1,4 @@
-use Rattle.std.proofs.Common.{◌≡◌, sym, refl, ap, ◌∙◌, arith}
+use Rattle.std.proofs.Common.{refl, ap, ◌∙◌}
 use Rattle.record.specs.View.{view}
 use Rattle.sheet.specs.Settle.{upto, cross_other}
 use Rattle.sheet.proofs.Steps.{upto_more}

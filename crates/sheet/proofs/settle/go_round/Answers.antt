@@ -1,4 +1,4 @@
-use Rattle.std.proofs.Common.{◌≡◌, not, eqb, sym, refl, ap, ◌∙◌, subst, ap₂, arith}
+use Rattle.std.proofs.Common.{◌≡◌, not, eqb, sym, refl, ap, ◌∙◌, ap₂, arith}
 use Rattle.record.specs.View.{view}
 use Rattle.sheet.specs.Settle.{upto, visit_rule, round}
 use Rattle.sheet.proofs.Steps.{upto_more, rule_placed, rule_absent}

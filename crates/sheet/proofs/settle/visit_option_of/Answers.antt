@@ -1,6 +1,6 @@
-use Rattle.std.proofs.Common.{◌≡◌, ℕ, ◌<◌, true, false, cond, List, length, get_or, sym, refl, ap, ◌∙◌, subst, ap₂, arith, rules}
+use Rattle.std.proofs.Common.{◌≡◌, ◌<◌, true, false, cond, length, get_or, sym, ap, ◌∙◌, subst, ap₂, arith, rules}
 use Rattle.std.proofs.lemmas.List.{get_or-take}
-use Rattle.terms.specs.Masks.{has, declared_each}
+use Rattle.terms.specs.Masks.{has}
 use Rattle.terms.specs.Scopes.{mask_at, masks_at, question_at, positions_of}
 use Rattle.terms.specs.declared.line.Line.{Line}
 use Rattle.terms.proofs.ScopeLaws.{positions_is, positions_le}

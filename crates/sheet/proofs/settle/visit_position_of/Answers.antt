@@ -1,4 +1,4 @@
-use Rattle.std.proofs.Common.{◌≡◌, sym, refl, ap, ◌∙◌, arith}
+use Rattle.std.proofs.Common.{◌≡◌, refl, ap, ◌∙◌, arith}
 use Rattle.terms.specs.Masks.{has}
 use Rattle.record.specs.View.{view}
 use Rattle.sheet.specs.Settle.{upto, visit_option, visit_position}

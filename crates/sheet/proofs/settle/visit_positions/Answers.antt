@@ -1,9 +1,9 @@
-use Rattle.std.proofs.Common.{◌≡◌, length, sym, refl, ap, ◌∙◌, subst, arith, rules}
+use Rattle.std.proofs.Common.{◌≡◌, length, refl, ap, ◌∙◌, arith, rules}
 use Rattle.terms.specs.Masks.{has}
 use Rattle.terms.specs.Scopes.{positions_of}
 use Rattle.terms.proofs.ScopeLaws.{positions_is}
 use Rattle.record.specs.View.{view}
-use Rattle.sheet.specs.Settle.{upto, visit_position, noted_scope}
+use Rattle.sheet.specs.Settle.{upto, visit_position}
 use Rattle.sheet.proofs.Steps.{upto_more}
 use Rattle.sheet.proofs.Later.{upto_later}
 use Rattle.sheet.proofs.Fixed.{visit_position_later}

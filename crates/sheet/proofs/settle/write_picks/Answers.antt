@@ -1,4 +1,4 @@
-use Rattle.std.proofs.Common.{◌≡◌, get_or, None, sym, refl, ap, ◌∙◌, subst, arith}
+use Rattle.std.proofs.Common.{◌≡◌, get_or, None, sym, refl, ap, ◌∙◌, arith}
 use Rattle.record.specs.View.{view}
 use Rattle.sheet.specs.Settle.{upto, pick_question, pick_lines}
 use Rattle.sheet.proofs.Steps.{upto_more, question_picked, question_unpicked}

@@ -1,4 +1,4 @@
-use Rattle.std.proofs.Common.{◌≡◌, ◌+◌, map, get_or, drop, sym, ap, ◌∙◌}
+use Rattle.std.proofs.Common.{◌+◌, map, get_or, drop, sym, ap, ◌∙◌}
 use Rattle.record.specs.View.{view}
 use Rattle.lines.specs.Marks.{noted}
 use Rattle.reading.specs.Readings.{heard_of}

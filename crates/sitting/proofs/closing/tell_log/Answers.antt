@@ -1,4 +1,4 @@
-use Rattle.std.proofs.Common.{◌≡◌, ℕ, ◌+◌, List, [], ◌++◌, get_or, drop, codes, decimal, sym, refl, ap, ◌∙◌}
+use Rattle.std.proofs.Common.{ℕ, ◌+◌, List, [], ◌++◌, get_or, drop, codes, decimal, sym, refl, ap, ◌∙◌}
 use Rattle.terms.specs.declared.line.Line.{Line}
 use Rattle.terms.specs.declared.scope.Scope.{Scope}
 use Rattle.showing.specs.Texts.{logged_text}

@@ -1,4 +1,4 @@
-use Rattle.std.proofs.Common.{◌≡◌, true, false, map, length, sym, ap, ◌∙◌}
+use Rattle.std.proofs.Common.{◌≡◌, true, false, map, length, ap, ◌∙◌}
 use Rattle.record.specs.Calls.{opened}
 use Rattle.record.specs.View.{view}
 use Rattle.lines.specs.Marks.{noted}

@@ -1,4 +1,4 @@
-use Rattle.std.proofs.Common.{◌≡◌, map, ap, ◌∙◌}
+use Rattle.std.proofs.Common.{map, ap, ◌∙◌}
 use Rattle.lines.specs.Marks.{noted}
 use Rattle.sitting.specs.Sittings.{no_rules, lines_told, sitting_told}
 use Rattle.sitting.proofs.run.run.Goals as goal

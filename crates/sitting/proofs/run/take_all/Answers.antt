@@ -1,4 +1,4 @@
-use Rattle.std.proofs.Common.{◌≡◌, map, codes, sym, ap, ◌∙◌}
+use Rattle.std.proofs.Common.{map, codes, sym, ◌∙◌}
 use Rattle.std.proofs.lemmas.Result.{IfOk-weaker}
 use Rattle.lines.specs.Marks.{noted}
 use Rattle.sitting.specs.Tales.{tale}

@@ -1,6 +1,5 @@
 use Rattle.std.proofs.Common.{get_or, set, is_some, sym, ap, ◌∙◌, arith}
 use Rattle.terms.specs.Masks.{with}
-use Rattle.tables.specs.Table.{unfit, option_at}
 use Rattle.tables.proofs.RowLaws.{misfit_at, note_unfit, note_at, note_none}
 use Rattle.tables.proofs.rows.note_row.Goals as goal
 

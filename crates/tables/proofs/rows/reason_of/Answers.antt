@@ -1,6 +1,6 @@
 use Rattle.std.proofs.Common.{◌+◌, get_or, drop, sym, ap, ◌∙◌}
 use Rattle.std.proofs.lemmas.List.{at_drop_more, at_drop_all}
-use Rattle.tables.specs.Table.{note_row, note_rows}
+use Rattle.tables.specs.Table.{note_rows}
 use Rattle.tables.proofs.RowLaws.{notes_end, notes_more}
 use Rattle.tables.proofs.rows.reason_of.Goals as goal
 

@@ -1,4 +1,4 @@
-use Rattle.std.proofs.Common.{◌≡◌, suc, ◌+◌, ◌<◌, min, length, set, replicate, sym, refl, ap, ◌∙◌, ap₂, arith, rules}
+use Rattle.std.proofs.Common.{◌≡◌, suc, ◌+◌, ◌<◌, min, length, set, replicate, sym, ap, ◌∙◌, ap₂, arith, rules}
 use Rattle.terms.specs.Masks.{declared_each}
 use Rattle.terms.proofs.MaskLaws.{declared_none, declared_more, declared_past}
 use Rattle.terms.proofs.masks.declared_each.Goals as goal

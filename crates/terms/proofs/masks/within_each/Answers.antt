@@ -1,4 +1,3 @@
-use Rattle.std.proofs.Common.{◌≡◌}
 use Rattle.terms.specs.Masks.{within_each}
 use Rattle.terms.proofs.masks.within_each.Goals as goal
 

@@ -1,4 +1,4 @@
-use Rattle.std.proofs.Common.{◌≡◌, ◌-◌, ◌^◌, sym, ap, ◌∙◌, arith}
+use Rattle.std.proofs.Common.{◌-◌, ◌^◌, sym, ap, ◌∙◌, arith}
 use lib.Bits.{bit_and}
 use lib.Pow.{pow-lt}
 use Rattle.std.proofs.lemmas.Nat.{one_shl}

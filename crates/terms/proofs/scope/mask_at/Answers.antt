@@ -1,7 +1,7 @@
-use Rattle.std.proofs.Common.{◌≡◌, ◌<◌, ◌≤◌, length, get_or, sym, ap, ◌∙◌, arith, rules}
+use Rattle.std.proofs.Common.{◌≡◌, length, get_or, sym, ap, ◌∙◌, arith, rules}
 use Rattle.std.proofs.lemmas.List.{get_or-take, get_or_past}
-use Rattle.terms.specs.Scopes.{positions_of, question_at}
-use Rattle.terms.proofs.ScopeLaws.{positions_is, positions_le, mask_here, mask_past}
+use Rattle.terms.specs.Scopes.{question_at}
+use Rattle.terms.proofs.ScopeLaws.{positions_is, mask_here, mask_past}
 use Rattle.terms.proofs.scope.mask_at.Goals as goal
 use Rattle.terms.proofs.scope.mask_at.Goals.{then-position-ge4-via-then-position-ge4, then-position-ge4-via-else-position-ge4+then-position-scope}
 

@@ -1,4 +1,3 @@
-use Rattle.std.proofs.Common.{◌≡◌}
 use Rattle.terms.specs.Scopes.{masks_at}
 use Rattle.terms.proofs.scope.masks_at.Goals as goal
 

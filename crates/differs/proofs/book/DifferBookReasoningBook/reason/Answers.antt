@@ -1,5 +1,4 @@
 use Rattle.std.proofs.Common.{◌≡◌, ◌-◌, [], ◌∷◌, get_or, sym, ap, ◌∙◌, arith}
-use Rattle.terms.specs.Masks.{without}
 use Rattle.books.specs.Twos.{beside, opposite, kept_below}
 use Rattle.differs.specs.Differ.{differs, differ_model, differ_reasons}
 use Rattle.books.proofs.TwoLaws.{reason_owed, reason_not_owed, same_kept}

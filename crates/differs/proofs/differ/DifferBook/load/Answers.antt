@@ -1,5 +1,5 @@
 use Rattle.std.proofs.Common.{◌≡◌, is_some, Some, sym, ap, ◌∙◌}
-use Rattle.books.specs.Questions.{answered, loaded, rules_fault}
+use Rattle.books.specs.Questions.{answered, loaded}
 use Rattle.differs.specs.Differ.{differ_fault}
 use Rattle.differs.proofs.differ.DifferBook.load.Goals as goal
 

@@ -1,5 +1,5 @@
 use Rattle.std.proofs.Common.{◌≡◌, is_some, Some, sym, ap, ◌∙◌}
-use Rattle.books.specs.Questions.{answered, loaded, first_of, rules_fault}
+use Rattle.books.specs.Questions.{answered, loaded, first_of}
 use Rattle.books.proofs.QuestionLaws.{faultless}
 use Rattle.gaps.specs.Gap.{gap_fault, too_far}
 use Rattle.gaps.proofs.gap.GapBook.load.Goals as goal

@@ -1,4 +1,4 @@
-use Rattle.std.proofs.Common.{◌≡◌, ◌<◌, length, get_or, Some, sym, refl, ap, ◌∙◌, inl, inr, arith, rules}
+use Rattle.std.proofs.Common.{◌<◌, Some, ◌∙◌, inl, inr, arith}
 use Rattle.std.proofs.lemmas.List.{length-set, get_or_past}
 use Rattle.std.proofs.lemmas.Bool.{cases_lt}
 use Rattle.record.proofs.OpenLaws.{picked_more}
@@ -18,13 +18,13 @@ invariant_of-result c =
       | inl i ↦ i
       | inr i ↦ absurd (omega (arith, get_or_past c.args.self.sizes c.args.question 0 (omega (arith, c.args.self.sixteen))))
     ] in record {
-  sixteen = d.sixteen;
-  slots = length-set d.picks c.args.question (Some c.args.option) ∙ d.slots;
-  bits = d.bits;
-  some = d.some;
-  few = d.few;
-  large = d.large;
-  small = d.small;
-  past = d.past;
-  picked = picked_more d.sizes d.picks c.args.question c.args.option d.picked (omega (arith, d.slots)) c.requires;
-}
+      sixteen = d.sixteen;
+      slots = length-set d.picks c.args.question (Some c.args.option) ∙ d.slots;
+      bits = d.bits;
+      some = d.some;
+      few = d.few;
+      large = d.large;
+      small = d.small;
+      past = d.past;
+      picked = picked_more d.sizes d.picks c.args.question c.args.option d.picked (omega (arith, d.slots)) c.requires;
+    }

@@ -1,5 +1,5 @@
-use Rattle.std.proofs.Common.{◌≡◌, ◌+◌, ◌<◌, true, false, cond, length, get_or, set, sym, refl, ap, ◌∙◌, ap₂, arith, rules}
-use Rattle.record.specs.Calls.{admissible, pushed}
+use Rattle.std.proofs.Common.{◌≡◌, ◌<◌, length, set, sym, rules}
+use Rattle.record.specs.Calls.{pushed}
 use Rattle.record.specs.View.{view}
 use Rattle.record.proofs.SoundLaws.{head_question}
 use Rattle.record.proofs.RecordLaws.{sound_of, fits, written, kept}

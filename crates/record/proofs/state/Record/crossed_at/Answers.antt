@@ -1,7 +1,6 @@
-use Rattle.std.proofs.Common.{◌≡◌, true, false, [], ◌∷◌, length, get_or, sym, refl, ap, ◌∙◌, ap₂, arith, rules}
+use Rattle.std.proofs.Common.{sym, ap, ◌∙◌, arith}
 use Rattle.std.proofs.lemmas.List.{get_or_default}
 use Rattle.std.proofs.lemmas.Bool.{cond-true, cond-false}
-use Rattle.terms.specs.Masks.{has}
 use Rattle.terms.specs.Scopes.{masks_at}
 use Rattle.terms.proofs.MaskLaws.{has_past_rules}
 use Rattle.record.specs.Calls.{crossed_at}

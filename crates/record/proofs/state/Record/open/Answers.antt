@@ -1,4 +1,4 @@
-use Rattle.std.proofs.Common.{◌≡◌, ℕ, ◌<◌, Bool, true, false, [], replicate, sym, refl, ap, ◌∙◌, subst, ap₂, not-suc-le-zero}
+use Rattle.std.proofs.Common.{[], replicate, refl, not-suc-le-zero}
 use Rattle.std.proofs.lemmas.Bool.{both_ways}
 use Rattle.record.specs.Calls.{opened}
 use Rattle.record.specs.State.{headed, unscoped}

@@ -1,4 +1,4 @@
-use Rattle.std.proofs.Common.{◌≡◌, ℕ, ◌<◌, ◌≤◌, Bool, true, false, not, ltb, length, get_or, take, is_some, Some, None, Option, sym, refl, ap, ◌∙◌, ap₂, arith}
+use Rattle.std.proofs.Common.{◌≡◌, ℕ, ◌<◌, ◌≤◌, not, ltb, get_or, take, is_some, Some, None, sym, refl, ap, ◌∙◌, ap₂, arith}
 use Rattle.std.proofs.lemmas.Bool.{lt-ltb, le-ltb}
 use Rattle.terms.specs.declared.refusal.Refusal.TheVariants.{NoSuchQuestion, NoSuchOption, PickStands}
 use Rattle.record.specs.State.{State}

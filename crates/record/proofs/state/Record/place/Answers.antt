@@ -1,4 +1,4 @@
-use Rattle.std.proofs.Common.{◌≡◌, ℕ, ◌^◌, ◌<◌, ◌≤◌, Bool, true, false, not, ltb, length, get_or, take, set, Some, None, Option, sym, refl, ap, ◌∙◌, subst, ap₂, arith}
+use Rattle.std.proofs.Common.{◌≡◌, ℕ, Bool, true, false, not, ltb, take, set, None, Option, sym, refl, ap, ◌∙◌, subst, ap₂}
 use Rattle.std.proofs.lemmas.List.{length-set}
 use Rattle.std.proofs.lemmas.Bool.{lt-ltb, le-ltb}
 use Rattle.terms.specs.Masks.{has}
@@ -53,15 +53,15 @@ pub invariant_of-self-2 : goal.invariant_of-self-2
 invariant_of-self-2 c =
     let r = c.args.self.now in
     let log = take r.lines r.log in record {
-  rules = length-set r.scopes c.args.rule c.args.scope ∙ r.rules;
-  questions = r.questions;
-  room = r.room;
-  heads = r.heads;
-  declared = r.declared;
-  once = r.once;
-  backed = subst (λ p. Backed p (set r.scopes c.args.rule c.args.scope) log) (sym c.with_rule-self.ensures) (place_backed r.docket.placed r.scopes log c.args.rule c.args.scope c.if-rule-ge64.false (sym c.if-has_rule.ensures) r.backed);
-  counted = r.counted;
-}
+      rules = length-set r.scopes c.args.rule c.args.scope ∙ r.rules;
+      questions = r.questions;
+      room = r.room;
+      heads = r.heads;
+      declared = r.declared;
+      once = r.once;
+      backed = subst (λ p. Backed p (set r.scopes c.args.rule c.args.scope) log) (sym c.with_rule-self.ensures) (place_backed r.docket.placed r.scopes log c.args.rule c.args.scope c.if-rule-ge64.false (sym c.if-has_rule.ensures) r.backed);
+      counted = r.counted;
+    }
 
 pub returns : goal.returns
 unfolding view noted_rule answer

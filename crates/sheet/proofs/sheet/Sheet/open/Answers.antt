@@ -1,6 +1,4 @@
-use Rattle.std.proofs.Common.{◌≡◌, sym, refl, subst}
-use Rattle.record.specs.View.{view}
-use Rattle.record.specs.Calls.{opened}
+use Rattle.std.proofs.Common.{sym, refl, subst}
 use Rattle.sheet.specs.Valid.{Valid}
 use Rattle.sheet.proofs.Notes.{open_valid}
 use Rattle.sheet.proofs.sheet.Sheet.open.Goals as goal

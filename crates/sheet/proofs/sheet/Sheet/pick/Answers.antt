@@ -1,4 +1,4 @@
-use Rattle.std.proofs.Common.{◌≡◌, sym, refl, ◌∙◌, subst}
+use Rattle.std.proofs.Common.{sym, refl, ◌∙◌, subst}
 use Rattle.record.specs.View.{view}
 use Rattle.record.specs.Told.{told}
 use Rattle.record.specs.Calls.{noted_pick}

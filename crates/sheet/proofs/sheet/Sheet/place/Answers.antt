@@ -1,4 +1,4 @@
-use Rattle.std.proofs.Common.{◌≡◌, ◌<◌, ◌≤◌, sym, refl, ap, ◌∙◌, subst, arith}
+use Rattle.std.proofs.Common.{◌<◌, ◌≤◌, sym, refl, ap, ◌∙◌, subst, arith}
 use Rattle.record.specs.View.{view}
 use Rattle.record.specs.Told.{told, unless}
 use Rattle.record.specs.Calls.{noted_rule, place_fault}

@@ -1,10 +1,9 @@
-use Rattle.std.proofs.Common.{◌≡◌, ℕ, ◌+◌, ◌<◌, ◌≤◌, true, false, not, eqb, length, sym, refl, ap, ◌∙◌, subst, arith}
+use Rattle.std.proofs.Common.{◌≡◌, ◌≤◌, true, false, eqb, length, sym, refl, ap, ◌∙◌, subst, arith}
 use Rattle.std.proofs.lemmas.Bool.{not-true, not-false, eqb-false}
-use Rattle.record.specs.State.{State}
 use Rattle.record.specs.View.{view}
 use Rattle.record.specs.Calls.{standing_each}
 use Rattle.record.proofs.RecordLaws.{sound_of}
-use Rattle.sheet.specs.Settle.{round, rounds, settled, pick_lines}
+use Rattle.sheet.specs.Settle.{round, rounds, settled}
 use Rattle.sheet.specs.Valid.{Valid}
 use Rattle.sheet.specs.Closed.{Closed, Greatest}
 use Rattle.sheet.proofs.Later.{later_lines}

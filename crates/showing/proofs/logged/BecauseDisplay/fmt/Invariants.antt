@@ -1,4 +1,3 @@
-use Rattle.std.proofs.Common.{◌++◌, codes}
 use Rattle.std.specs.Fmt.{IsPlainFormatter, HasWritten}
 use Rattle.showing.specs.Texts.{reason_below}
 use Rattle.showing.proofs.logged.BecauseDisplay.fmt.Given as goal

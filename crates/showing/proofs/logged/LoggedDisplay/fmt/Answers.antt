@@ -1,4 +1,4 @@
-use Rattle.std.proofs.Common.{◌≡◌, sym, ap, ◌∙◌}
+use Rattle.std.proofs.Common.{sym}
 use Rattle.std.proofs.Output.{has_written_of_eq}
 use Rattle.showing.proofs.TextLaws.{logged_pick, logged_rule}
 use Rattle.showing.proofs.logged.LoggedDisplay.fmt.Goals as goal

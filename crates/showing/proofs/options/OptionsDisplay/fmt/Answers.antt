@@ -1,7 +1,7 @@
 use Rattle.std.proofs.Common.{◌≡◌, [], ◌∷◌, ◌++◌, decimal, sym, refl, ap, ◌∙◌, arith}
 use lib.Utf8.{encode}
 use Rattle.std.proofs.Output.{has_written_of_eq, has_written_to_eq, has_written_append, writes_in_calls_nil}
-use Rattle.showing.specs.Texts.{gap, options_below, options_text}
+use Rattle.showing.specs.Texts.{gap, options_below}
 use Rattle.showing.proofs.TextLaws.{options_more, options_gap, options_same, options_text_none, options_text_some}
 use Rattle.showing.proofs.options.OptionsDisplay.fmt.Goals as goal
 use Rattle.showing.proofs.options.OptionsDisplay.fmt.Goals.{then-has+in_ok-write, else-has}

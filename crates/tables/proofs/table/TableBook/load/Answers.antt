@@ -1,5 +1,5 @@
 use Rattle.std.proofs.Common.{◌≡◌, is_some, Some, sym, ap, ◌∙◌}
-use Rattle.books.specs.Questions.{answered, loaded, first_of, rules_fault}
+use Rattle.books.specs.Questions.{answered, loaded, first_of}
 use Rattle.books.proofs.QuestionLaws.{faultless}
 use Rattle.tables.specs.Table.{table_fault, bad_rows}
 use Rattle.tables.proofs.table.TableBook.load.Goals as goal
