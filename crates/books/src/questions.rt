@@ -1,5 +1,5 @@
 // What the questions of a rule must be, whatever the kind of the rule.
-ghost use Rattle.std.specs.Prelude.{◌≡◌, ℕ, ◌≤◌, length};
+ghost use Rattle.std.specs.Prelude.{◌≡◌, ◌≤◌, length};
 ghost use Rattle.books.specs.Questions.{fresh, fits, misfit, rules_fault};
 ghost use Rattle.terms.specs.declared.scope.Scope.{Scope};
 

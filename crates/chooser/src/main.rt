@@ -2,6 +2,7 @@
 #![tactic(auto)]
 
 use sitting::run::run;
+use std::process::ExitCode;
 use std::{env, fs, io};
 
 fn input(rt: &HostRuntime) -> io::Result<String> {
@@ -19,13 +20,13 @@ fn sit(rt: &HostRuntime) -> io::Result<bool> {
     Ok(told.sound)
 }
 
-fn main(rt: HostRuntime) -> Result<(), ()> {
+fn main(rt: HostRuntime) -> ExitCode {
     match sit(&rt) {
-        Ok(true) => Ok(()),
-        Ok(false) => Err(()),
+        Ok(true) => ExitCode::SUCCESS,
+        Ok(false) => ExitCode::FAILURE,
         Err(error) => {
             let _ = eprintln!(rt; "chooser: {error}");
-            Err(())
+            ExitCode::FAILURE
         }
     }
 }

@@ -1,7 +1,6 @@
 -- A text, its lines, what a line says before its comment, and its words. Assumes nothing.
-use Rattle.std.specs.Prelude.{ℕ, ◌+◌, true, false, List, [], ◌∷◌, ◌++◌, map, Some, None, Option, ◌==◌}
+use Rattle.std.specs.Prelude.{ℕ, ◌+◌, true, false, List, [], ◌∷◌, ◌++◌, map, encode_utf8_all, Some, None, Option, ◌==◌}
 use Rattle.std.specs.Borrow.{Bor}
-use Rattle.std.proofs.Math.Utf8.{encodes}
 use Rattle.std.specs.Str.{chars}
 use Rattle.std.specs.Char.{is_whitespace}
 use Rattle.lines.specs.declared.words.Entry.{Entry}
@@ -36,7 +35,7 @@ chop w (c ∷ cs) = elim (is_whitespace c) [ true ↦ unless_empty w ++ chop [] 
 
 -- the words of a text, apart by white space
 unfoldable pub words_of : List ℕ → List (List ℕ)
-words_of bs = map encodes (chop [] (chars bs))
+words_of bs = map encode_utf8_all (chop [] (chars bs))
 
 -- without the white characters that it begins with
 unfoldable pub past_white : List ℕ → List ℕ
@@ -55,7 +54,7 @@ to_last (c ∷ cs) = unless_last c (to_last cs)
 
 -- the text without the white characters at its two ends
 unfoldable pub trimmed : List ℕ → List ℕ
-trimmed bs = encodes (to_last (past_white (chars bs)))
+trimmed bs = encode_utf8_all (to_last (past_white (chars bs)))
 
 -- less the carriage return (13) at its end, if it has one
 unfoldable pub unreturned : List ℕ → List ℕ

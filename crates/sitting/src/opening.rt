@@ -1,5 +1,5 @@
 // Opening a sheet on the rules that were gathered.
-ghost use Rattle.std.specs.Prelude.{◌≡◌, ℕ, map, IfOk, OnOk};
+ghost use Rattle.std.specs.Prelude.{◌≡◌, map, IfOk, OnOk};
 ghost use Rattle.record.specs.View.{view};
 ghost use Rattle.lines.specs.Marks.{noted};
 ghost use Rattle.sitting.specs.Tales.{tale};

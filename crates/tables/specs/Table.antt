@@ -1,5 +1,5 @@
 -- Rules that list what they allow. Assumes nothing.
-use Rattle.std.specs.Prelude.{ℕ, zero, suc, ◌+◌, ◌/◌, ◌%◌, Bool, true, false, not, ◌&&◌, ltb, List, [], ◌∷◌, length, take, drop, is_some, Some, None, Option, ◌==◌, nat_eq, nat_le, nat_lt, slice_index, slice_index_or, slice_set}
+use Rattle.std.specs.Prelude.{ℕ, zero, suc, ◌+◌, ◌/◌, ◌%◌, Bool, true, false, not, ◌&&◌, List, [], ◌∷◌, length, take, drop, is_some, Some, None, Option, ◌==◌, nat_eq, nat_le, nat_lt, slice_index, slice_index_or, slice_set}
 use Rattle.terms.specs.Masks.{has, with}
 use Rattle.terms.specs.declared.refusal.Refusal.{Refusal}
 use Rattle.terms.specs.declared.refusal.Refusal.TheVariants.{BadRows}
@@ -57,7 +57,7 @@ row_supports n p o masks row = not (is_some (unfit n p o masks row))
 
 -- x may be written at position k of a rule over n questions: an option, and 0 past the last
 abbrev pub sound_at : ℕ → ℕ → ℕ → Bool
-sound_at n k x = elim (nat_lt k n) [ true ↦ ltb x 32 | false ↦ nat_eq x 0 ]
+sound_at n k x = elim (nat_lt k n) [ true ↦ nat_lt x 32 | false ↦ nat_eq x 0 ]
 
 -- the first k positions hold what they may
 unfoldable pub sound_upto : ℕ → ℕ → ℕ → Bool

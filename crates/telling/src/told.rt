@@ -1,5 +1,5 @@
 // What a sitting tells, line by line.
-ghost use Rattle.std.specs.Prelude.{◌≡◌, true, false, [], ◌∷◌, ◌++◌, IfSome, is_ok, string_bytes, codes, decimal, OnOk};
+ghost use Rattle.std.specs.Prelude.{◌≡◌, true, false, [], ◌∷◌, ◌++◌, IfSome, string_bytes, codes, decimal, OnOk};
 
 use std::alloc::{AllocError, Global};
 use std::fmt;
