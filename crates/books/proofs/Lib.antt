@@ -1,4 +1,3 @@
-pub mod Conjunctions
 pub mod OwingLaws
 pub mod PairLaws
 pub mod QuestionLaws

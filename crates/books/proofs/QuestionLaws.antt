@@ -1,6 +1,8 @@
 -- What fitting questions are, and how the test goes along a list. Assumes nothing.
-use Rattle.std.proofs.Common.{◌≡◌, ℕ, zero, suc, ◌<◌, ◌≤◌, min, Bool, true, false, not, ◌&&◌, ◌||◌, eqb, ltb, leb, ◌⊎◌, List, [], ◌∷◌, length, get_or, is_some, Some, None, Option, sym, refl, ap, ◌∙◌, inl, inr, le_of_suc-le-suc, not-suc-le-zero, arith}
-use Rattle.std.specs.List.{AllByRecursion as All}
+use Rattle.std.proofs.Common.{◌≡◌, ℕ, zero, suc, ◌+◌, ◌<◌, ◌≤◌, min, cond, Bool, true, false, not, ◌&&◌, ◌||◌, eqb, ltb, leb, ◌⊎◌, List, [], ◌∷◌, length, get_or, is_some, Some, None, Option, sym, refl, ap, ◌∙◌, inl, inr, add-one, le_of_suc-le-suc, not-suc-le-zero, arith}
+use Rattle.std.specs.List.{AllByRecursion as All, position, position_from}
+use Rattle.std.specs.Option.{option_map}
+use Rattle.std.proofs.lemmas.Iterator.Adapters.{position_from-zero}
 use Rattle.std.proofs.lemmas.Bool.{and_parts, and_left, and_right, not-true, not_from_true, lt-ltb, le-ltb, ltb-true, leb-true, eqb-true, both_ways, eq-eqb, or_right, lt-leb, le-leb, cases_lt, cases_Bool, false≢true}
 use Rattle.terms.specs.Masks.{has, with}
 use Rattle.terms.specs.Scopes.{questions_of}
@@ -9,7 +11,7 @@ use Rattle.terms.specs.declared.refusal.Refusal.{Refusal}
 use Rattle.terms.specs.declared.refusal.Refusal.TheVariants.{BadQuestions, TooManyRules}
 use Rattle.terms.proofs.MaskLaws.{has-with}
 use Rattle.books.specs.Plain.{Tied}
-use Rattle.books.specs.Questions.{fresh, fits, misfit, first_of, too_many, rules_fault}
+use Rattle.books.specs.Questions.{fresh, fits, first_fault, refused_unless, lowest, misfit, first_of, too_many, rules_fault}
 
 pub fresh_bad : (seen q : ℕ) (qs : List ℕ) → (16 ≤ q) ⊎ (has seen q ≡ true) → fresh seen (q ∷ qs) ≡ false
 unfolding fresh
@@ -54,17 +56,48 @@ apart seen (q ∷ qs) e zero (suc j) h l same = absurd (twice seen q qs e j (le_
 apart seen (q ∷ qs) e (suc i) zero h l same = absurd (twice seen q qs e i (le_of_suc-le-suc h) (sym same))
 apart seen (q ∷ qs) e (suc i) (suc j) h l same = ap suc (apart (with seen q) qs (parts seen q qs e).2 i j (le_of_suc-le-suc h) (le_of_suc-le-suc l) same)
 
-pub misfit_bad : {R : Type 0} (ties : R → Scope) (least most r : ℕ) (x : R) (xs : List R) → fits least most (ties x) ≡ false → misfit ties least most r (x ∷ xs) ≡ Some (BadQuestions r)
-unfolding misfit
-misfit_bad ties least most r x xs e = ap (λ b. elim b as (λ _. Option Refusal) [ true ↦ misfit ties least most (suc r) xs | false ↦ Some (BadQuestions r) ]) e
+-- the faults of rules, one by one
 
-pub misfit_good : {R : Type 0} (ties : R → Scope) (least most r : ℕ) (x : R) (xs : List R) → fits least most (ties x) ≡ true → misfit ties least most r (x ∷ xs) ≡ misfit ties least most (suc r) xs
-unfolding misfit
-misfit_good ties least most r x xs e = ap (λ b. elim b as (λ _. Option Refusal) [ true ↦ misfit ties least most (suc r) xs | false ↦ Some (BadQuestions r) ]) e
+pub fault_here : {R : Type 0} (fault : R → ℕ → Option Refusal) (r : ℕ) (x : R) (xs : List R) (e : Refusal) → fault x r ≡ Some e → first_fault fault r (x ∷ xs) ≡ Some e
+unfolding first_fault
+fault_here fault r x xs e f = ap (λ o. first_of o (first_fault fault (suc r) xs)) f
 
-pub misfit_none : {R : Type 0} (ties : R → Scope) (least most r : ℕ) → misfit ties least most r [] ≡ None
-unfolding misfit
-misfit_none ties least most r = refl
+pub fault_later : {R : Type 0} (fault : R → ℕ → Option Refusal) (r : ℕ) (x : R) (xs : List R) → fault x r ≡ None → first_fault fault r (x ∷ xs) ≡ first_fault fault (suc r) xs
+unfolding first_fault
+fault_later fault r x xs f = ap (λ o. first_of o (first_fault fault (suc r) xs)) f
+
+pub fault_none : {R : Type 0} (fault : R → ℕ → Option Refusal) (r : ℕ) → first_fault fault r [] ≡ None
+unfolding first_fault
+fault_none fault r = refl
+
+-- the lowest rule that fails a test
+
+lowest_here : {R : Type 0} (test : R → Bool) (refusal : ℕ → Refusal) (r : ℕ) (x : R) (xs : List R) → test x ≡ false → lowest test refusal r (x ∷ xs) ≡ Some (refusal r)
+unfolding first_fault
+lowest_here test refusal r x xs e = ap (λ b. first_of (refused_unless b (refusal r)) (lowest test refusal (suc r) xs)) e
+
+lowest_later : {R : Type 0} (test : R → Bool) (refusal : ℕ → Refusal) (r : ℕ) (x : R) (xs : List R) → test x ≡ true → lowest test refusal r (x ∷ xs) ≡ lowest test refusal (suc r) xs
+unfolding first_fault
+lowest_later test refusal r x xs e = ap (λ b. first_of (refused_unless b (refusal r)) (lowest test refusal (suc r) xs)) e
+
+lowest_from : {R : Type 0} (test : R → Bool) (refusal : ℕ → Refusal) (r : ℕ) (xs : List R) → option_map refusal (position_from (λ x. not (test x)) r xs) ≡ lowest test refusal r xs
+unfolding first_fault
+lowest_from test refusal r [] = refl
+lowest_from test refusal r (x ∷ xs) =
+    elim (cases_Bool (test x)) [
+      | inl e ↦
+          ap (λ b. option_map refusal (cond (not b) (Some r) (position_from (λ x. not (test x)) (r + 1) xs))) e
+          ∙ ap (λ k. option_map refusal (position_from (λ x. not (test x)) k xs)) (add-one r)
+          ∙ lowest_from test refusal (suc r) xs
+          ∙ sym (lowest_later test refusal r x xs e)
+      | inr e ↦
+          ap (λ b. option_map refusal (cond (not b) (Some r) (position_from (λ x. not (test x)) (r + 1) xs))) e
+          ∙ sym (lowest_here test refusal r x xs e)
+    ]
+
+-- what `position` finds is refused
+pub lowest_found : {R : Type 0} (test : R → Bool) (refusal : ℕ → Refusal) (xs : List R) (found : Option ℕ) → found ≡ position (λ x. not (test x)) xs → option_map refusal found ≡ lowest test refusal 0 xs
+lowest_found test refusal xs found e = ap (option_map refusal) (e ∙ position_from-zero (λ x. not (test x)) xs) ∙ lowest_from test refusal 0 xs
 
 pub over : (n : ℕ) (f : Option Refusal) → 64 < n → too_many n f ≡ Some TooManyRules
 unfolding too_many
@@ -82,20 +115,20 @@ pub no_fault : (a b : Option Refusal) → is_some (first_of a b) ≡ false → (
 no_fault (Some x) b e = absurd (false≢true (sym e))
 no_fault None b e = (refl, e)
 
-all_fit : {R : Type 0} (ties : R → Scope) (least most r : ℕ) (xs : List R) → is_some (misfit ties least most r xs) ≡ false → All (λ x. fits least most (ties x) ≡ true) xs
-all_fit ties least most r [] e = tt
-all_fit ties least most r (x ∷ xs) e =
-    elim (cases_Bool (fits least most (ties x))) [
-      | inl f ↦ (f, all_fit ties least most (suc r) xs (ap is_some (sym (misfit_good ties least most r x xs f)) ∙ e))
-      | inr f ↦ absurd (false≢true (sym e ∙ ap is_some (misfit_bad ties least most r x xs f)))
+pub all_pass : {R : Type 0} (test : R → Bool) (refusal : ℕ → Refusal) (r : ℕ) (xs : List R) → is_some (lowest test refusal r xs) ≡ false → All (λ x. test x ≡ true) xs
+all_pass test refusal r [] e = tt
+all_pass test refusal r (x ∷ xs) e =
+    elim (cases_Bool (test x)) [
+      | inl f ↦ (f, all_pass test refusal (suc r) xs (ap is_some (sym (lowest_later test refusal r x xs f)) ∙ e))
+      | inr f ↦ absurd (false≢true (sym e ∙ ap is_some (lowest_here test refusal r x xs f)))
     ]
 
 -- rules that are not refused are at most 64, and the questions of each fit
 pub faultless : {R : Type 0} (ties : R → Scope) (least most : ℕ) (rules : List R) → is_some (rules_fault ties least most rules) ≡ false → (length rules ≤ 64) × All (λ x. fits least most (ties x) ≡ true) rules
-unfolding rules_fault
+unfolding rules_fault misfit
 faultless ties least most rules e =
     let p = few (length rules) (misfit ties least most 0 rules) e in
-    (p.0, all_fit ties least most 0 rules p.1)
+    (p.0, all_pass (λ x. fits least most (ties x)) BadQuestions 0 rules p.1)
 
 -- questions that fit are as many as they are counted, and none is there twice
 pub fits_parts : (least most : ℕ) (s : Scope) → fits least most s ≡ true → (least ≤ s.count) × (s.count ≤ min most 4) × (length (questions_of s) ≡ s.count) × (fresh 0 (questions_of s) ≡ true)

@@ -1,8 +1,10 @@
 -- Books whose rules tie two questions: what they mean follows from which two options go together. Assumes nothing.
-use Rattle.std.specs.Prelude.{ℕ, zero, suc, ◌-◌, Bool, true, false, cond, ◌&&◌, List, [], ◌∷◌, length, nat_lt, slice_index, slice_index_or}
+use Rattle.std.specs.Prelude.{ℕ, zero, suc, ◌-◌, Bool, true, false, cond, ◌&&◌, List, [], ◌∷◌, length, nat_lt, map, Option, slice_index, slice_index_or}
 use Rattle.terms.specs.Masks.{has, with}
 use Rattle.terms.specs.declared.scope.Scope.{Scope}
+use Rattle.terms.specs.declared.refusal.Refusal.{Refusal}
 use Rattle.books.specs.Plain.{Plain, no_scope}
+use Rattle.books.specs.Questions.{rules_fault, first_of, first_fault}
 use Rattle.books.specs.Reasons.{owed, no_reason}
 
 -- some option below n is in the mask and passes the test
@@ -43,3 +45,18 @@ two_reasons scopes pairs r p o declared standing =
       | true ↦ opposite p (kept_below (beside (pairs r) p o) 32 (slice_index declared (1 - p)))
       | false ↦ no_reason
     ]
+
+-- a book of rules, by the questions that a rule ties and the options that it lets go together; `none` stands for a rule that the book lacks
+
+abbrev pub pairs_at : {R : Type 0} → (R → ℕ → ℕ → Bool) → R → List R → ℕ → ℕ → ℕ → Bool
+pairs_at pairs none rules r = pairs (slice_index_or rules r none)
+
+abbrev pub rules_model : {R : Type 0} → (R → Scope) → (R → ℕ → ℕ → Bool) → R → List R → Plain
+rules_model ties pairs none rules = two_model (map ties rules) (pairs_at pairs none rules)
+
+abbrev pub rules_reasons : {R : Type 0} → (R → Scope) → (R → ℕ → ℕ → Bool) → R → List R → ℕ → ℕ → ℕ → List ℕ → List ℕ → List ℕ
+rules_reasons ties pairs none rules = two_reasons (map ties rules) (pairs_at pairs none rules)
+
+-- the first fault of rules over two questions: that of their questions, or else what a rule says beside them
+abbrev pub two_fault : {R : Type 0} → (R → Scope) → (R → ℕ → Option Refusal) → List R → Option Refusal
+two_fault ties fault rules = first_of (rules_fault ties 2 2 rules) (first_fault fault 0 rules)

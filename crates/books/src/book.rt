@@ -5,6 +5,21 @@ ghost use Rattle.books.specs.Reasons.{Reasonable};
 
 use terms::scope::Scope;
 
+// An option at a position of a rule.
+#[derive(Clone, Copy)]
+pub struct Seat {
+    pub rule: u8,
+    pub position: u8,
+    pub option: u8,
+}
+
+// The declared and the standing options of a rule's questions, a mask a position.
+#[derive(Clone, Copy)]
+pub struct Outlook {
+    pub declared: [u32; 4],
+    pub standing: [u32; 4],
+}
+
 // A plain book: rules, their questions, and support. Asking changes nothing.
 pub trait Book {
     ghost model: { Self → Plain };
@@ -17,9 +32,9 @@ pub trait Book {
     fn scope(&self, rule: u8) -> Scope
         ensures { result ≡ (model self.now).scope rule };
 
-    // Whether some allowed combination has the option at the position and, elsewhere, options of the masks.
-    fn supports(&self, rule: u8, position: u8, option: u8, masks: [u32; 4]) -> bool
-        ensures { result ≡ (model self.now).supports rule position option masks };
+    // Whether some allowed combination has the option at its position and, elsewhere, options of the masks.
+    fn supports(&self, seat: Seat, masks: [u32; 4]) -> bool
+        ensures { result ≡ (model self.now).supports seat.rule seat.position seat.option masks };
 
     // Does nothing: its contract is what generic code knows of every book.
     fn lawful(&self)
@@ -31,15 +46,8 @@ pub trait ReasoningBook: Book {
     ghost reasons: { Self → ℕ → ℕ → ℕ → List ℕ → List ℕ → List ℕ };
 
     // Options that do not stand and without which the option still lacks support; four empty masks where none is owed.
-    fn reason(
-        &self,
-        rule: u8,
-        position: u8,
-        option: u8,
-        declared: [u32; 4],
-        standing: [u32; 4],
-    ) -> [u32; 4]
-        ensures { result ≡ reasons self.now rule position option declared standing };
+    fn reason(&self, seat: Seat, outlook: Outlook) -> [u32; 4]
+        ensures { result ≡ reasons self.now seat.rule seat.position seat.option outlook.declared outlook.standing };
 
     // Does nothing: its contract is the law of reasons.
     fn reasonable(&self)

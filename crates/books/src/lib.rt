@@ -5,3 +5,5 @@ pub mod book;
 pub mod owing;
 pub mod pair;
 pub mod questions;
+pub mod two_book;
+pub mod two_rule;

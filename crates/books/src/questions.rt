@@ -1,8 +1,11 @@
 // What the questions of a rule must be, whatever the kind of the rule.
-ghost use Rattle.std.specs.Prelude.{◌≡◌, ◌≤◌, length};
-ghost use Rattle.books.specs.Questions.{fresh, fits, misfit, rules_fault};
+ghost use Rattle.std.specs.Prelude.{◌≡◌};
+ghost use Rattle.std.specs.Range.{range_inclusive_start, range_inclusive_end};
+ghost use Rattle.books.specs.Questions.{fresh, fits, rules_fault};
+ghost use Rattle.terms.specs.Refusals.{told};
 ghost use Rattle.terms.specs.declared.scope.Scope.{Scope};
 
+use std::ops::RangeInclusive;
 use terms::masks::{has, with};
 use terms::refusal::Refusal;
 use terms::scope::Scope;
@@ -37,38 +40,25 @@ fn fresh(questions: &[u8]) -> bool
     true
 }
 
-// Whether a rule that ties from `least` to `most` questions may tie these.
-fn fits(scope: Scope, least: u8, most: u8) -> bool
-    ensures { result ≡ fits least most scope }
+// Whether a rule that ties that many questions may tie these.
+#[tactic(auto, using(crate::proofs::OwingLaws::counted, std::proofs::lemmas::Bool::Decides::nat_tests), unfolding(crate::specs::Questions::fits))]
+fn fits(scope: Scope, counts: &RangeInclusive<u8>) -> bool
+    ensures { result ≡ fits (range_inclusive_start counts.now) (range_inclusive_end counts.now) scope }
 {
     let count = scope.count;
-    let most = most.min(4);
-    if count < least || count > most {
-        false
-    } else {
-        fresh(&scope.questions[..count as usize])
-    }
+    let most = (*counts.end()).min(4);
+    *counts.start() <= count && count <= most && fresh(&scope.questions[..usize::from(count)])
 }
 
-// The refusal of the lowest rule whose questions do not fit.
-fn misfit<R: Ties>(rules: &[R], least: u8, most: u8) -> Option<Refusal>
-    requires { length rules.now ≤ 64 }
-    ensures { result ≡ misfit R.ties least most 0 rules.now }
-{
-    for (rule, tied) in rules.iter().enumerate() {
-        if !fits(tied.scope(), least, most) {
-            return Some(Refusal::BadQuestions { rule: rule as u8 });
-        }
-    }
-    None
-}
-
-// The first fault of rules that tie from `least` to `most` questions each: more than 64 of them, or questions that do not fit.
-pub fn rules_fault<R: Ties>(rules: &[R], least: u8, most: u8) -> Option<Refusal>
-    ensures { result ≡ rules_fault R.ties least most rules.now }
+// Refuses more than 64 rules, or else the lowest that does not tie that many questions as it should.
+pub fn rules_fault<R: Ties>(rules: &[R], counts: RangeInclusive<u8>) -> Result<(), Refusal>
+    ensures { told result ≡ rules_fault R.ties (range_inclusive_start counts) (range_inclusive_end counts) rules.now }
 {
     if rules.len() > 64 {
-        return Some(Refusal::TooManyRules);
+        return Err(Refusal::TooManyRules);
     }
-    misfit(rules, least, most)
+    match rules.iter().position(|rule| !fits(rule.scope(), &counts)) {
+        Some(rule) => Err(Refusal::BadQuestions { rule: rule as u8 }),
+        None => Ok(()),
+    }
 }

@@ -1,5 +1,5 @@
 // The calls on a sheet as values, and what they answer.
 #![tactic(auto)]
 
-pub mod call;
+pub mod answer;
 pub mod make;

@@ -1,39 +1,16 @@
 // Making a call on a sheet.
-ghost use Rattle.std.specs.Prelude.{◌≡◌, length};
-ghost use Rattle.record.specs.View.{view};
-ghost use Rattle.terms.specs.Refusals.{told};
-ghost use Rattle.calls.specs.Answers.{granted, overview_of, answer_of, after_call};
+ghost use Rattle.std.specs.Prelude.{◌≡◌};
+ghost use Rattle.calls.specs.Answers.{overview_of, answer_of, after_call};
 
-use crate::call::{Answer, Call};
+use crate::answer::Answer;
 use books::book::{Book, ReasoningBook};
 use sheet::sheet::Sheet;
-use terms::line::{BLANK, LOG_LINES};
+use terms::call::Call;
 use terms::refusal::Refusal;
-
-// What a call says that has no other answer than being granted.
-fn granted(res: Result<(), Refusal>) -> Answer
-    ensures { result ≡ granted (told res) }
-{
-    match res {
-        Ok(()) => Answer::Done,
-        Err(refusal) => Answer::Denied(refusal),
-    }
-}
-
-// How many lines the log has.
-fn line_count<B: ReasoningBook>(sheet: &Sheet<'_, B>) -> usize
-    ensures { result ≡ length (view sheet.now.state).log }
-{
-    let mut lines = [BLANK; LOG_LINES];
-    match sheet.copy_log(&mut lines) {
-        Ok(count) => count,
-        Err(_) => unreachable(),
-    }
-}
 
 // What stands, question by question.
 pub fn overview<B: ReasoningBook>(sheet: &Sheet<'_, B>) -> Answer
-    ensures { result ≡ overview_of (view sheet.now.state) }
+    ensures { result ≡ overview_of sheet.now.state }
 {
     Answer::Overview {
         count: sheet.docket().count(),
@@ -42,22 +19,24 @@ pub fn overview<B: ReasoningBook>(sheet: &Sheet<'_, B>) -> Answer
 }
 
 // Makes the call and says what it answered.
-pub fn make<B: ReasoningBook>(sheet: &mut Sheet<'_, B>, call: Call) -> Answer
-    ensures answer { result ≡ answer_of (B.Book.model sheet.old.book.now) (B.reasons sheet.old.book.now) call (view sheet.old.state) }
-    ensures after { view sheet.new.state ≡ after_call (B.Book.model sheet.old.book.now) (B.reasons sheet.old.book.now) call (view sheet.old.state) }
-    ensures book { sheet.new.book.now ≡ sheet.old.book.now }
+pub fn make<B: ReasoningBook>(sheet: &mut Sheet<'_, B>, call: Call) -> Result<Answer, Refusal>
+    ensures answer { result ≡ answer_of (B.Book.model sheet.old.book) (B.reasons sheet.old.book) call sheet.old.state }
+    ensures after { sheet.new ≡ record { book = sheet.old.book; state = after_call (B.Book.model sheet.old.book) (B.reasons sheet.old.book) call sheet.old.state } }
 {
     match call {
-        Call::Place { rule } => granted(sheet.place(rule)),
-        Call::Pick { question, option } => granted(sheet.pick(question, option)),
+        Call::Place { rule } => {
+            sheet.place(rule)?;
+            Ok(Answer::Done)
+        }
+        Call::Pick { question, option } => {
+            sheet.pick(question, option)?;
+            Ok(Answer::Done)
+        }
         Call::Settle => {
             sheet.settle();
-            Answer::Lines(line_count(sheet))
+            Ok(Answer::Lines(sheet.log().len()))
         }
-        Call::Standing { question } => match sheet.standing(question) {
-            Ok(mask) => Answer::Standing(mask),
-            Err(refusal) => Answer::Denied(refusal),
-        },
-        Call::Overview => overview(sheet),
+        Call::Standing { question } => Ok(Answer::Standing(sheet.standing(question)?)),
+        Call::Overview => Ok(overview(sheet)),
     }
 }

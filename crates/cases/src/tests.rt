@@ -1,5 +1,5 @@
 // The cases that are run, on the books and sheets themselves.
-use books::book::ReasoningBook;
+use books::book::{Outlook, ReasoningBook, Seat};
 use books::pair::Pair;
 use differs::differ::DifferBook;
 use gaps::gap::{GapBook, GapRule};
@@ -11,6 +11,7 @@ use tables::table::{TableBook, TableRule};
 use terms::line::BLANK;
 use terms::refusal::Refusal;
 use terms::scope::Scope;
+use wording::numbers::numbers;
 
 fn two(a: u8, b: u8) -> Scope {
     Scope {
@@ -19,60 +20,43 @@ fn two(a: u8, b: u8) -> Scope {
     }
 }
 
-// What a refused call says: its number and place.
-fn said(r: Result<(), Refusal>) -> (u8, usize) {
-    match r {
-        Ok(()) => (0, 0),
-        Err(refusal) => (refusal.number(), refusal.place()),
-    }
-}
-
-fn told(r: Result<usize, Refusal>) -> (u8, usize) {
-    match r {
-        Ok(_) => (0, 0),
-        Err(refusal) => (refusal.number(), refusal.place()),
-    }
+// The number and the place of a refusal; nothing of a granted call.
+fn refused<T: Drop>(r: Result<T, Refusal>) -> Option<(u8, usize)> {
+    r.err().map(|refusal| (refusal.number(), refusal.place()))
 }
 
 // A call that has to be granted.
 fn granted<T>(r: Result<T, Refusal>) -> Result<T, Fail> {
-    match r {
-        Ok(x) => Ok(x),
-        Err(_) => Err(Fail::new("refused")),
-    }
+    r.map_err(|_| Fail::new("refused"))
 }
 
-fn opens(sizes: &[u8]) -> (u8, usize) {
+fn opens(sizes: &[u8]) -> Option<(u8, usize)> {
     let book = DifferBook::empty();
-    match Sheet::open(&book, sizes) {
-        Ok(_) => (0, 0),
-        Err(refusal) => (refusal.number(), refusal.place()),
-    }
+    refused(Sheet::open(&book, sizes))
 }
 
 #[test]
 fn sixteen_questions_open_and_seventeen_do_not(rt: HostRuntime) {
-    assert_eq!(rt; opens(&[32; 16]), (0, 0));
-    assert_eq!(rt; opens(&[32; 17]), (1, 0));
-    assert_eq!(rt; opens(&[]), (1, 0));
-    assert_eq!(rt; opens(&[3, 33, 0]), (2, 1));
+    assert_eq!(rt; opens(&[32; 16]), None);
+    assert_eq!(rt; opens(&[32; 17]), Some((1, 0)));
+    assert_eq!(rt; opens(&[]), Some((1, 0)));
+    assert_eq!(rt; opens(&[3, 33, 0]), Some((2, 1)));
 }
 
-fn distance(k: i16) -> (u8, usize) {
+fn distance(k: i16) -> Option<(u8, usize)> {
     let rules = [GapRule {
         scope: two(0, 1),
         distance: k,
     }];
-    let mut book = GapBook::empty();
-    said(book.load(&rules))
+    refused(GapBook::new(&rules))
 }
 
 #[test]
 fn distances_reach_to_31(rt: HostRuntime) {
-    assert_eq!(rt; distance(31), (0, 0));
-    assert_eq!(rt; distance(-31), (0, 0));
-    assert_eq!(rt; distance(32), (6, 0));
-    assert_eq!(rt; distance(-32), (6, 0));
+    assert_eq!(rt; distance(31), None);
+    assert_eq!(rt; distance(-31), None);
+    assert_eq!(rt; distance(32), Some((6, 0)));
+    assert_eq!(rt; distance(-32), Some((6, 0)));
 }
 
 #[test]
@@ -83,10 +67,9 @@ fn an_empty_run_crosses_everything_on_its_questions(rt: HostRuntime) -> Result<(
         count: 0,
     }];
     let rows = [0x0101];
-    let mut book = TableBook::empty();
-    assert_eq!(rt; said(book.load(&rows, &rules)), (0, 0));
+    let book = granted(TableBook::new(&rows, &rules))?;
     let mut sheet = granted(Sheet::open(&book, &[3, 3, 2]))?;
-    assert_eq!(rt; said(sheet.place(0)), (0, 0));
+    assert_eq!(rt; refused(sheet.place(0)), None);
     sheet.settle();
     let masks = sheet.overview();
     assert_eq!(rt; (masks[0], masks[1], masks[2]), (0, 7, 0));
@@ -101,47 +84,58 @@ fn run(first: usize, count: usize) -> TableRule {
     }
 }
 
-fn rows_taken<'a>(rows: &'a [u32], rules: &'a [TableRule]) -> (u8, usize) {
-    let mut book = TableBook::empty();
-    said(book.load(rows, rules))
+fn rows_taken<'a>(rows: &'a [u32], rules: &'a [TableRule]) -> Option<(u8, usize)> {
+    refused(TableBook::new(rows, rules))
 }
 
 #[test]
 fn rows_hold_options_and_nothing_past_the_last_position(rt: HostRuntime) {
-    assert_eq!(rt; rows_taken(&[0x1f1f], &[run(0, 1)]), (0, 0));
-    assert_eq!(rt; rows_taken(&[0x010000], &[run(0, 1)]), (5, 0));
-    assert_eq!(rt; rows_taken(&[0x2000], &[run(0, 0), run(0, 1)]), (5, 1));
-    assert_eq!(rt; rows_taken(&[0, 0x010000], &[run(0, 1)]), (0, 0));
+    assert_eq!(rt; rows_taken(&[0x1f1f], &[run(0, 1)]), None);
+    assert_eq!(rt; rows_taken(&[0x010000], &[run(0, 1)]), Some((5, 0)));
+    assert_eq!(rt;
+        rows_taken(&[0x2000], &[run(0, 0), run(0, 1)]),
+        Some((5, 1))
+    );
+    assert_eq!(rt; rows_taken(&[0, 0x010000], &[run(0, 1)]), None);
 }
 
 #[test]
 fn runs_stay_within_the_rows(rt: HostRuntime) {
-    assert_eq!(rt; rows_taken(&[0], &[run(1, 0)]), (0, 0));
-    assert_eq!(rt; rows_taken(&[0], &[run(1, 1)]), (5, 0));
-    assert_eq!(rt; rows_taken(&[0], &[run(usize::MAX, 2)]), (5, 0));
+    assert_eq!(rt; rows_taken(&[0], &[run(1, 0)]), None);
+    assert_eq!(rt; rows_taken(&[0], &[run(1, 1)]), Some((5, 0)));
+    assert_eq!(rt; rows_taken(&[0], &[run(usize::MAX, 2)]), Some((5, 0)));
 }
 
 #[test]
 fn a_rule_off_the_sheet_is_not_placed(rt: HostRuntime) -> Result<(), Fail> {
     let rules = [two(14, 15)];
-    let mut book = DifferBook::empty();
-    assert_eq!(rt; said(book.load(&rules)), (0, 0));
+    let book = granted(DifferBook::new(&rules))?;
     let mut sheet = granted(Sheet::open(&book, &[2; 15]))?;
-    assert_eq!(rt; said(sheet.place(0)), (10, 0));
-    assert_eq!(rt; said(sheet.place(1)), (9, 1));
+    assert_eq!(rt; refused(sheet.place(0)), Some((10, 0)));
+    assert_eq!(rt; refused(sheet.place(1)), Some((9, 1)));
     Ok(())
 }
 
 #[test]
-fn undeclared_standing_options_give_an_empty_reason(rt: HostRuntime) {
+fn undeclared_standing_options_give_an_empty_reason(rt: HostRuntime) -> Result<(), Fail> {
     let rules = [two(0, 1)];
-    let mut book = DifferBook::empty();
-    assert_eq!(rt; said(book.load(&rules)), (0, 0));
-    assert_eq!(rt;
-        book.reason(0, 0, 1, [7, 7, 0, 0], [7, 2, 0, 0]),
-        [0, 5, 0, 0]
-    );
-    assert_eq!(rt; book.reason(0, 0, 1, [7, 5, 0, 0], [7, 2, 0, 0]), [0; 4]);
+    let book = granted(DifferBook::new(&rules))?;
+    let seat = Seat {
+        rule: 0,
+        position: 0,
+        option: 1,
+    };
+    let within = Outlook {
+        declared: [7, 7, 0, 0],
+        standing: [7, 2, 0, 0],
+    };
+    let beyond = Outlook {
+        declared: [7, 5, 0, 0],
+        standing: [7, 2, 0, 0],
+    };
+    assert_eq!(rt; book.reason(seat, within), [0, 5, 0, 0]);
+    assert_eq!(rt; book.reason(seat, beyond), [0; 4]);
+    Ok(())
 }
 
 // The book's kinds are parameters, so that each pair lends from one lifetime.
@@ -159,7 +153,7 @@ fn settles_as_counted<'a, F: ReasoningBook, S: ReasoningBook>(
     let masks = sheet.overview();
     assert_eq!(rt; (masks[0], masks[1], masks[2], masks[3]), (3, 3, 6, 0));
     let mut few = [BLANK; 2];
-    assert_eq!(rt; told(sheet.copy_log(&mut few)), (14, 0));
+    assert_eq!(rt; refused(sheet.copy_log(&mut few)), Some((14, 0)));
     assert_eq!(rt; (few[1].rule, few[1].question, few[1].option), (1, 2, 0));
     let mut lines = [BLANK; 4];
     assert_eq!(rt; granted(sheet.copy_log(&mut lines))?, 3);
@@ -202,13 +196,24 @@ fn the_sample_settles_as_it_was_counted(rt: HostRuntime) -> Result<(), Fail> {
         distance: 1,
     }];
     let differs = [two(0, 2)];
-    let mut table = TableBook::empty();
-    let mut gap = GapBook::empty();
-    let mut differ = DifferBook::empty();
-    granted(table.load(&rows, &tables))?;
-    granted(gap.load(&gaps))?;
-    granted(differ.load(&differs))?;
+    let table = granted(TableBook::new(&rows, &tables))?;
+    let gap = granted(GapBook::new(&gaps))?;
+    let differ = granted(DifferBook::new(&differs))?;
     paired(&rt, &table, &gap, &differ)
+}
+
+// Words are read as numbers, up to the first that writes none.
+#[test]
+fn words_are_read_as_numbers(rt: HostRuntime) -> Result<(), Fail> {
+    let Ok(read) = numbers(rt.alloc(), &["7", "255"])? else {
+        return Err(Fail::new("no numbers"));
+    };
+    assert_eq!(rt; read.as_slice(), [7, 255].as_slice());
+    let Err(word) = numbers(rt.alloc(), &["7", "256", "x"])? else {
+        return Err(Fail::new("numbers"));
+    };
+    assert_eq!(rt; word, "256");
+    Ok(())
 }
 
 // The sample as a sitting, from its text to what is told.

@@ -3,7 +3,7 @@ use Rattle.std.proofs.Common.{◌≡◌, ℕ, List, [], ◌∷◌, Some, refl}
 use Rattle.terms.specs.Masks.{has, with, less, within, within_each}
 use Rattle.terms.specs.declared.scope.Scope.{Scope}
 use Rattle.terms.specs.declared.refusal.Refusal.TheVariants.{BadQuestions}
-use Rattle.books.specs.Questions.{fresh, fits, misfit, too_many, rules_fault}
+use Rattle.books.specs.Questions.{fresh, fits, misfit, first_fault, too_many, rules_fault}
 use Rattle.books.specs.Reasons.{owed}
 use Rattle.books.specs.Twos.{some_below, kept_below, two_model, two_reasons}
 use Rattle.differs.specs.Differ.{differ_fault, differ_reasons}
@@ -15,7 +15,7 @@ abbrev differs : List Scope
 differs = over 0 2 ∷ []
 
 three_questions : differ_fault (over 0 1 ∷ record { count = 3; questions = 0 ∷ 1 ∷ 2 ∷ 0 ∷ [] } ∷ []) ≡ Some (BadQuestions 1)
-unfolding differ_fault rules_fault too_many misfit fits fresh has with
+unfolding differ_fault rules_fault too_many misfit first_fault fits fresh has with
 three_questions = refl
 
 differ_blames : differ_reasons differs 0 1 0 (7 ∷ 7 ∷ 0 ∷ 0 ∷ []) (1 ∷ 7 ∷ 0 ∷ 0 ∷ []) ≡ 6 ∷ 0 ∷ 0 ∷ 0 ∷ []

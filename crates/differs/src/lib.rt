@@ -1,5 +1,4 @@
 // A book of rules that want unequal options.
 #![tactic(auto)]
 
-pub mod book;
 pub mod differ;

@@ -1,11 +1,12 @@
 // Rules that want a distance between two options, and the book that holds them.
-ghost use Rattle.std.specs.Prelude.{◌≡◌, ◌≤◌, false, [], length, is_some};
-ghost use Rattle.books.specs.Questions.{answered, loaded};
-ghost use Rattle.gaps.specs.Gap.{gap_fault, in_reach, too_far};
+ghost use Rattle.std.specs.Prelude.{refl};
+ghost use Rattle.gaps.specs.Gap.{keeps, far, no_gap};
 
-use books::questions::{Ties, rules_fault};
+use books::questions::Ties;
+use books::two_book::TwoBook;
+use books::two_rule::TwoRule;
 use terms::refusal::Refusal;
-use terms::scope::Scope;
+use terms::scope::{NO_SCOPE, Scope};
 
 // The option at position 0 and the distance come to at most the option at position 1.
 #[derive(Clone, Copy)]
@@ -22,52 +23,32 @@ impl Ties for GapRule {
     }
 }
 
-#[derive(Clone, Copy)]
-pub struct GapBook<'a> {
-    pub(crate) rules: &'a [GapRule],
-    ghost sound: { is_some (gap_fault rules.now) ≡ false },
-}
+impl TwoRule for GapRule {
+    ghost NONE = { no_gap };
 
-// Whether a distance is from -31 to 31.
-fn in_reach(distance: i16) -> bool
-    ensures { result ≡ in_reach distance }
-{
-    -31 <= distance && distance <= 31
-}
+    ghost pairs = { λ g. keeps g.distance };
 
-// The refusal of the lowest rule whose distance is out of range.
-fn too_far(rules: &[GapRule]) -> Option<Refusal>
-    requires { length rules.now ≤ 64 }
-    ensures { result ≡ too_far 0 rules.now }
-{
-    for (rule, gap) in rules.iter().enumerate() {
-        if !in_reach(gap.distance) {
-            return Some(Refusal::DistanceOutOfRange { rule: rule as u8 });
-        }
-    }
-    None
-}
+    ghost fault = { far };
 
-impl<'a> GapBook<'a> {
-    // A book without rules.
-    pub fn empty() -> GapBook<'a>
-        ensures { result.rules.now ≡ [] }
-    {
-        GapBook { rules: &[] }
+    const NONE: GapRule = GapRule {
+        scope: NO_SCOPE,
+        distance: 0,
+    };
+
+    fn pairs(&self, low: u8, high: u8) -> bool {
+        i32::from(low) + i32::from(self.distance) <= i32::from(high)
     }
 
-    // Takes these rules in place of those it has; refused rules change nothing.
-    pub fn load(&mut self, rules: &'a [GapRule]) -> Result<(), Refusal>
-        ensures answer { result ≡ answered (gap_fault rules.now) tt }
-        ensures book { self.new.rules.now ≡ loaded (gap_fault rules.now) rules.now self.old.rules.now }
-    {
-        if let Some(refusal) = rules_fault(rules, 2, 2) {
-            return Err(refusal);
+    // Refused where the distance is not from -31 to 31.
+    fn check(&self, rule: u8) -> Result<(), Refusal> {
+        if (-31..=31).contains(&self.distance) {
+            Ok(())
+        } else {
+            Err(Refusal::DistanceOutOfRange { rule })
         }
-        if let Some(refusal) = too_far(rules) {
-            return Err(refusal);
-        }
-        self.rules = rules;
-        Ok(())
     }
+
+    ghost nothing = { refl };
 }
+
+pub type GapBook<'a> = TwoBook<'a, GapRule>;

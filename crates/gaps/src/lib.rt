@@ -1,5 +1,4 @@
 // A book of rules that want a distance between two options.
 #![tactic(auto)]
 
-pub mod book;
 pub mod gap;

@@ -1,6 +1,5 @@
 // The rules gathered for a book, each kind in the order written.
-ghost use Rattle.std.specs.Prelude.{◌≡◌, [], ◌∷◌, ◌++◌, length, is_ok, if◌then◌else◌, vec_len, OnOk};
-ghost use Rattle.books.specs.Questions.{loaded};
+ghost use Rattle.std.specs.Prelude.{◌≡◌, [], ◌∷◌, ◌++◌, length, is_ok, if◌then◌else◌, vec_len, IfOk, OnOk};
 ghost use Rattle.terms.specs.Refusals.{told};
 ghost use Rattle.ledger.specs.Ledgers.{renumber, ledger_fault};
 
@@ -18,6 +17,14 @@ pub struct Ledger {
     tables: Vec<TableRule>,
     gaps: Vec<GapRule>,
     differs: Vec<Scope>,
+}
+
+// A book of each kind.
+#[derive(Clone, Copy)]
+pub struct Books<'a> {
+    pub tables: TableBook<'a>,
+    pub gaps: GapBook<'a>,
+    pub differs: DifferBook<'a>,
 }
 
 impl Ledger {
@@ -70,36 +77,24 @@ impl Ledger {
         Ok(())
     }
 
-    // Loads what was gathered, a kind to each book. Tables are numbered first, then gaps, then differs, and so is a refusal.
-    // Refused rules change no book.
-    pub fn load<'a>(
-        &'a self,
-        tables: &mut TableBook<'a>,
-        gaps: &mut GapBook<'a>,
-        differs: &mut DifferBook<'a>,
-    ) -> Result<(), Refusal>
+    // The books of what was gathered. Tables are numbered first, then gaps, then differs, and so is a refusal.
+    pub fn books(&self) -> Result<Books<'_>, Refusal>
         ensures answer { told result ≡ ledger_fault self.now.rows.items self.now.tables.items self.now.gaps.items self.now.differs.items }
-        ensures rows { tables.new.rows.now ≡ loaded (told result) self.now.rows.items tables.old.rows.now }
-        ensures tables { tables.new.rules.now ≡ loaded (told result) self.now.tables.items tables.old.rules.now }
-        ensures gaps { gaps.new.rules.now ≡ loaded (told result) self.now.gaps.items gaps.old.rules.now }
-        ensures differs { differs.new.rules.now ≡ loaded (told result) self.now.differs.items differs.old.rules.now }
+        ensures rows { IfOk result (λ books. books.tables.rows.now ≡ self.now.rows.items) }
+        ensures tables { IfOk result (λ books. books.tables.rules.now ≡ self.now.tables.items) }
+        ensures gaps { IfOk result (λ books. books.gaps.rules.now ≡ self.now.gaps.items) }
+        ensures differs { IfOk result (λ books. books.differs.rules.now ≡ self.now.differs.items) }
     {
-        let mut some_tables = *tables;
-        let mut some_gaps = *gaps;
-        let mut some_differs = *differs;
-        some_tables.load(self.rows.as_slice(), self.tables.as_slice())?;
-        let before = some_tables.rules();
-        if let Err(refusal) = some_gaps.load(self.gaps.as_slice()) {
-            return Err(renumbered(refusal, before));
-        }
-        let before = before.saturating_add(some_gaps.rules());
-        if let Err(refusal) = some_differs.load(self.differs.as_slice()) {
-            return Err(renumbered(refusal, before));
-        }
-        *tables = some_tables;
-        *gaps = some_gaps;
-        *differs = some_differs;
-        Ok(())
+        let tables = TableBook::new(&self.rows, &self.tables)?;
+        let before = tables.rules();
+        let gaps = GapBook::new(&self.gaps).map_err(|fault| renumbered(fault, before))?;
+        let before = before.saturating_add(gaps.rules());
+        let differs = DifferBook::new(&self.differs).map_err(|fault| renumbered(fault, before))?;
+        Ok(Books {
+            tables,
+            gaps,
+            differs,
+        })
     }
 }
 

@@ -1,12 +1,8 @@
 -- The lines that say something, one line at a time.
-use Rattle.std.proofs.Common.{◌≡◌, ℕ, ◌+◌, ◌<◌, List, [], ◌∷◌, ◌++◌, map, length, sym, refl, ap, ◌∙◌, append_assoc, append-nil, arith}
-use mathlib.Core.List.{map-append}
-use Rattle.lines.specs.declared.words.Entry.{Entry}
-use Rattle.lines.specs.Marks.{Noted, note, noted, content, entries_from, entries_of, lines_from, lines_of}
-
--- those seen are the entries of the text before its lines from number n on
-abbrev pub Sofar : List ℕ → List ℕ → ℕ → List Entry → Type 0
-Sofar text rest n seen = map noted seen ++ entries_from n (lines_of rest) ≡ entries_of text
+use Rattle.std.proofs.Common.{◌≡◌, ℕ, ◌+◌, ◌<◌, List, [], ◌∷◌, ◌++◌, length, get_or, drop, sym, refl, ap, ◌∙◌, append_assoc, arith, add-one, drop-cons}
+use Rattle.std.proofs.lemmas.List.FromFn.{get_or-enumerate_from, length-enumerate_from}
+use Rattle.std.specs.List.{enumerate_from}
+use Rattle.lines.specs.Marks.{Noted, note, content, entries_from}
 
 note_none : (n : ℕ) (x : List ℕ) → length x ≡ 0 → note n x ≡ []
 note_none n [] h = refl
@@ -16,27 +12,24 @@ note_one : (n : ℕ) (x : List ℕ) → 0 < length x → note n x ≡ record { n
 note_one n [] h = absurd (omega arith)
 note_one n (b ∷ x) h = refl
 
-pub blank : (text rest next line said : List ℕ) (n : ℕ) (seen : List Entry) → lines_of rest ≡ line ∷ lines_of next → said ≡ content line → length said ≡ 0
-    → Sofar text rest n seen → Sofar text next (n + 1) seen
-unfolding entries_from
-blank text rest next line said n seen cut is none old =
-    ap (λ (l : List Noted). map noted seen ++ (l ++ entries_from (n + 1) (lines_of next))) (sym (ap (note n) (sym is) ∙ note_none n said none))
-    ∙ ap (λ (l : List (List ℕ)). map noted seen ++ entries_from n l) (sym cut) ∙ old
+-- line number index of the lines ls has come after i others; those seen before it and those that are left are all
+module _ (ls : List (List ℕ)) (i j index : ℕ) (line said : List ℕ) (seen all : List Noted) (next : j ≡ i + 1)
+    (at : (i < length (enumerate_from 0 ls)) × ◌≡◌ {A = ℕ × List ℕ} (index, line) (get_or (enumerate_from 0 ls) i (index, line))) (is : said ≡ content line) (sofar : seen ++ entries_from (i + 1) (drop i ls) ≡ all) where
+  same : ◌≡◌ {A = ℕ × List ℕ} (index, line) (0 + i, get_or ls i line)
+  same = at.1 ∙ get_or-enumerate_from 0 ls i (index, line) (omega (arith, length-enumerate_from 0 ls))
 
-pub one_more : (text rest next line : List ℕ) (n : ℕ) (seen : List Entry) (e : Entry) → lines_of rest ≡ line ∷ lines_of next → e.number ≡ n → e.text.now ≡ content line
-    → 0 < length e.text.now → Sofar text rest n seen → Sofar text next (n + 1) (seen ++ (e ∷ []))
-unfolding entries_from
-one_more text rest next line n seen e cut at is some old =
-    let tail = entries_from (n + 1) (lines_of next) in
-    ap (λ (l : List Noted). l ++ tail) (map-append noted seen (e ∷ [])) ∙ append_assoc (map noted seen) (noted e ∷ []) tail
-    ∙ ap (λ (l : List Noted). map noted seen ++ (l ++ tail)) (sym (note_one e.number e.text.now some) ∙ (λ i. note (at i) (is i)))
-    ∙ ap (λ (l : List (List ℕ)). map noted seen ++ entries_from n l) (sym cut) ∙ old
+  left : drop i ls ≡ line ∷ drop j ls
+  left = drop-cons ls i line (omega (arith, length-enumerate_from 0 ls)) ∙ (λ k. sym (ap (λ (p : ℕ × List ℕ). p.1) same) k ∷ drop (sym (next ∙ add-one i) k) ls)
 
-empty : (xs : List ℕ) → length xs ≡ 0 → xs ≡ []
-empty [] e = refl
-empty (x ∷ xs) e = absurd (omega arith)
+  step : seen ++ (note (i + 1) said ++ entries_from (j + 1) (drop j ls)) ≡ all
+  unfolding entries_from
+  step = ap (λ (l : List Noted). seen ++ l) ((λ k. note (i + 1) (is k) ++ entries_from (next k + 1) (drop j ls)) ∙ ap (entries_from (i + 1)) (sym left)) ∙ sofar
 
-pub no_more : (text rest : List ℕ) (n : ℕ) (seen : List Entry) → length rest ≡ 0 → Sofar text rest n seen → map noted seen ≡ entries_of text
-unfolding entries_from lines_from
-no_more text rest n seen none old =
-    sym (append-nil (map noted seen)) ∙ ap (λ (l : List ℕ). map noted seen ++ entries_from n (lines_of l)) (sym (empty rest none)) ∙ old
+  pub blank : length said ≡ 0 → seen ++ entries_from (j + 1) (drop j ls) ≡ all
+  blank h = ap (λ (l : List Noted). seen ++ (l ++ entries_from (j + 1) (drop j ls))) (sym (note_none (i + 1) said h)) ∙ step
+
+  pub noted_one : 0 < length said → (seen ++ record { number = index + 1; text = said } ∷ []) ++ entries_from (j + 1) (drop j ls) ≡ all
+  noted_one h =
+      let here : index ≡ i = omega (arith, ap (λ (p : ℕ × List ℕ). p.0) same) in
+      append_assoc seen _ _ ∙ ap (λ (l : List Noted). seen ++ (l ++ entries_from (j + 1) (drop j ls)))
+      (ap (λ n. record { number = n + 1; text = said } ∷ []) here ∙ sym (note_one (i + 1) said h)) ∙ step

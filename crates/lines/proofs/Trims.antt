@@ -1,5 +1,5 @@
 -- What `trim` gives.
-use Rattle.std.proofs.Common.{◌≡◌, ℕ, ◌<◌, Bool, true, false, ◌&&◌, ◌⊎◌, List, [], ◌∷◌, ◌++◌, length, drop, IsUtf8, sym, refl, ap, ◌∙◌, inl, inr, true≢false, append_assoc, append-nil, arith, length-append, take-append-drop}
+use Rattle.std.proofs.Common.{◌≡◌, ℕ, ◌<◌, Bool, true, false, ◌&&◌, ◌⊎◌, List, [], ◌∷◌, ◌++◌, length, drop, IsUtf8, sym, refl, ap, ◌∙◌, inl, inr, append_assoc, append-nil, arith, length-append, take-append-drop}
 use borrow.Author.Tests.{not-true, not-false}
 use lib.Utf8.{scalar, scalars, encode, encodes}
 use Rattle.std.proofs.iter.Find.{last_one}
@@ -8,28 +8,22 @@ use Rattle.std.proofs.lemmas.Str.{encode_same, encodes-append, encodes_same, enc
 use Rattle.std.specs.Str.{chars, NonePass, EmptyOrStartsWithPassing, EmptyOrEndsWithPassing}
 use Rattle.std.specs.Char.{is_whitespace, is_not_whitespace}
 use Rattle.lines.specs.Marks.{past_white, unless_last, to_last, trimmed}
-use Rattle.lines.proofs.Splits.{rest_of, longer}
-
-abbrev past_by : ℕ → List ℕ → Bool → List ℕ
-past_by c cs t = elim t [ true ↦ past_white cs | false ↦ c ∷ cs ]
-
-abbrev last_by : ℕ → Bool → List ℕ
-last_by c t = elim t [ true ↦ [] | false ↦ c ∷ [] ]
+use Rattle.lines.proofs.Splits.{scalars_after, rest_of, longer}
 
 past_blank : (cs ds : List ℕ) → NonePass is_not_whitespace cs → past_white (cs ++ ds) ≡ past_white ds
 unfolding past_white
 past_blank [] ds h = refl
-past_blank (c ∷ cs) ds h = ap (past_by c (cs ++ ds)) (not-false (is_whitespace c) h.0) ∙ past_blank cs ds h.1
+past_blank (c ∷ cs) ds h = grind (arith, not-false (is_whitespace c) h.0, past_blank cs ds h.1)
 
 to_last_blank : (cs : List ℕ) → NonePass is_not_whitespace cs → to_last cs ≡ []
 unfolding to_last
 to_last_blank [] h = refl
-to_last_blank (c ∷ cs) h = ap (unless_last c) (to_last_blank cs h.1) ∙ ap (last_by c) (not-false (is_whitespace c) h.0)
+to_last_blank (c ∷ cs) h = grind (arith, not-false (is_whitespace c) h.0, to_last_blank cs h.1)
 
 -- nothing is lost before a character that is not white
 to_last_dark : (front vs : List ℕ) (d : ℕ) → is_whitespace d ≡ false → NonePass is_not_whitespace vs → to_last (front ++ (d ∷ vs)) ≡ front ++ (d ∷ [])
 unfolding to_last
-to_last_dark [] vs d e h = ap (unless_last d) (to_last_blank vs h) ∙ ap (last_by d) e
+to_last_dark [] vs d e h = grind (arith, to_last_blank vs h, e)
 to_last_dark (a ∷ []) vs d e h = ap (unless_last a) (to_last_dark [] vs d e h)
 to_last_dark (a ∷ b ∷ front) vs d e h = ap (unless_last a) (to_last_dark (b ∷ front) vs d e h)
 
@@ -73,7 +67,7 @@ to_last_bare ts vs h last (inr (front, z, e)) =
 bare : (ts vs : List ℕ) → NonePass is_not_whitespace vs → First ts → Last ts → to_last (past_white (ts ++ vs)) ≡ ts
 unfolding past_white
 bare [] vs h first last = ap to_last (ap past_white (sym (append-nil vs)) ∙ past_blank vs [] h) ∙ to_last_blank [] tt
-bare (c ∷ cs) vs h first last = ap to_last (ap (past_by c (cs ++ vs)) (first c cs refl)) ∙ to_last_bare (c ∷ cs) vs h last (ending (c ∷ cs))
+bare (c ∷ cs) vs h first last = grind (arith, first c cs refl, to_last_bare (c ∷ cs) vs h last (ending (c ∷ cs)))
 
 opens_first : (t rest : List ℕ) → IsUtf8 t → EmptyOrStartsWithPassing is_not_whitespace t rest → First (chars t)
 opens_first t rest v o c cs e =
@@ -81,17 +75,11 @@ opens_first t rest v o c cs e =
     let k = o (longer c cs t spelt) in
     ap is_whitespace (encode_same c k.0 (encodes cs) rest (spelt ∙ k.2)).0 ∙ not-true (is_whitespace k.0) k.1
 
-and_left : (a b : Bool) → a && b ≡ true → a ≡ true
-and_left true b h = refl
-and_left false b h = h
-
-and_right : (a b : Bool) → a && b ≡ true → b ≡ true
-and_right true b h = h
-and_right false b h = absurd (true≢false (sym h))
-
 scalar_last : (front : List ℕ) (z : ℕ) → scalars (front ++ (z ∷ [])) ≡ true → scalar z ≡ true
-scalar_last [] z h = and_left (scalar z) true h
-scalar_last (c ∷ front) z h = scalar_last front z (and_right (scalar c) (scalars (front ++ (z ∷ []))) h)
+scalar_last front z h = left (scalar z) (scalars_after front (z ∷ []) h)
+  where
+    left : (b : Bool) → b && true ≡ true → b ≡ true
+    left b e = grind arith
 
 shuts_at : (t front f : List ℕ) (z c : ℕ) → IsUtf8 t → chars t ≡ front ++ (z ∷ []) → t ≡ encodes front ++ encode z → t ≡ f ++ encode c → scalar c ≡ true → is_not_whitespace c ≡ true → is_whitespace z ≡ false
 shuts_at t front f z c v e spelt is known d =

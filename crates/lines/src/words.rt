@@ -26,11 +26,7 @@ pub fn uncommented(line: &str) -> &str
 pub fn words(heap: Global, line: &str) -> Result<Vec<&str>, AllocError>
     ensures { IfOk result (λ v. texts v.items ≡ words_of line.now) }
 {
-    let mut words = Vec::new(heap);
-    for word in line.split_whitespace() {
-        words.push(word)?;
-    }
-    Ok(words)
+    line.split_whitespace().collect(heap)
 }
 
 // The line without its comment and the blanks around it.
@@ -45,12 +41,13 @@ pub fn entries(heap: Global, text: &str) -> Result<Vec<Entry<'_>>, AllocError>
     ensures { IfOk result (λ v. map noted v.items ≡ entries_of text.now) }
 {
     let mut entries = Vec::new(heap);
-    let mut number: usize = 0;
-    for line in text.lines() {
-        number += 1;
+    for (index, line) in text.lines().enumerate() {
         let text = stripped(line);
         if !text.is_empty() {
-            entries.push(Entry { number, text })?;
+            entries.push(Entry {
+                number: index + 1,
+                text,
+            })?;
         }
     }
     Ok(entries)

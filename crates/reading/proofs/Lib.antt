@@ -1,8 +1,3 @@
-mod Colons
-mod Exits
-mod Gaps
-mod Gathers
-mod Headings
-mod Options
+pub mod Colons
 mod Rows
 mod Samples

@@ -1,4 +1,5 @@
 pub mod Plain
+pub mod Scopes
 pub mod Commands
 pub mod Tables
 pub mod Readings

@@ -1,36 +1,28 @@
 -- What a line says, and what is wrong with it, as plain values: the code's own hold vectors and references. Assumes nothing.
 use Rattle.std.specs.Prelude.{◌≡◌, ℕ, List, ℤ, Ok, Err, vec_items, Result}
+use Rattle.terms.specs.declared.call.Call.{Call}
 use Rattle.terms.specs.declared.scope.Scope.{Scope}
 use Rattle.reading.specs.declared.command.Command.{Command}
 use Rattle.reading.specs.declared.command.Command.TheVariants as command
+use Rattle.reading.specs.declared.fault.Fault.{Fault}
 use Rattle.reading.specs.declared.fault.Unread.{Unread}
 use Rattle.reading.specs.declared.fault.Unread.TheVariants as unread
 use Rattle.reading.specs.declared.fault.Wrong.{Wrong}
 use Rattle.reading.specs.declared.fault.Wrong.TheVariants.{NoSuchCommand, NoByte, NoDistance, WordCount, NoColon, RowLength}
-use Rattle.reading.specs.declared.parse.Reading.{Reading}
-use Rattle.reading.specs.declared.parse.Reading.TheVariants as reading
 
 pub data Said : Type 0 where
   table : Scope → List ℕ → Said
   gap : Scope → ℤ → Said
   differ : Scope → Said
   opens : List ℕ → Said
-  place : ℕ → Said
-  pick : ℕ → ℕ → Said
-  settle : Said
-  standing : ℕ → Said
-  overview : Said
+  call : Call → Said
 
 abbrev pub said : Command → Said
 said (command.Table scope rows) = table scope (vec_items rows)
 said (command.Gap scope distance) = gap scope distance
 said (command.Differ scope) = differ scope
 said (command.Open sizes) = opens (vec_items sizes)
-said (command.Place rule) = place rule
-said (command.Pick question option) = pick question option
-said command.Settle = settle
-said (command.Standing question) = standing question
-said command.Overview = overview
+said (command.Call c) = call c
 
 pub data Mistake : Type 0 where
   no_such_command : List ℕ → Mistake
@@ -53,12 +45,12 @@ pub data Heard : Type 0 where
   says : Said → Heard
   wrong : Mistake → List ℕ → Heard
 
-abbrev pub heard : Reading → Heard
-heard (reading.Command c) = says (said c)
-heard (reading.Fault f) = wrong (mistake f.wrong) f.expected.now
+abbrev pub heard : Result Command Fault → Heard
+heard (Ok c) = says (said c)
+heard (Err f) = wrong (mistake f.wrong) f.expected.now
 
 -- a result of the code is this one, unless memory ran out
 abbrev pub Comes : {X Y : Type 0} → (X → Y) → Result X Unread → Result Y Mistake → Type 0
 Comes f (Ok x) e = Ok (f x) ≡ e
 Comes f (Err (unread.Wrong w)) e = Err (mistake w) ≡ e
-Comes f (Err unread.Memory) e = Unit {0}
+Comes f (Err (unread.Memory spent)) e = Unit {0}

@@ -2,8 +2,9 @@
 ghost use Rattle.std.specs.Prelude.{◌≡◌};
 ghost use Rattle.reading.specs.Commands.{command_of};
 
+use crate::scopes::scope_of;
+use terms::call::Call;
 use terms::scope::Scope;
-use wording::numbers::Numbers;
 use wording::verb::Verb;
 
 #[derive(Drop)]
@@ -14,37 +15,23 @@ pub enum Command {
     Differ { scope: Scope },
     // The sizes of the questions: it closes the book.
     Open { sizes: Vec<u8> },
-    // The calls on the sheet.
-    Place { rule: u8 },
-    Pick { question: u8, option: u8 },
-    Settle,
-    Standing { question: u8 },
-    Overview,
+    Call(Call),
 }
 
 // The command of a verb that only numbers follow, if they are as many as it takes.
-pub fn with_numbers(verb: Verb, numbers: Numbers) -> Option<Command>
-    ensures { result ≡ command_of verb numbers }
+pub fn with_numbers(verb: Verb, numbers: &[u8]) -> Option<Command>
+    ensures { result ≡ command_of verb numbers.now }
 {
-    if verb.arity()? != numbers.count {
-        return None;
-    }
-    let [first, second, _, _] = numbers.first;
-    match verb {
-        Verb::Differ => Some(Command::Differ {
-            scope: Scope {
-                count: 2,
-                questions: [first, second, 0, 0],
-            },
+    let call = match (verb, numbers) {
+        (Verb::Differ, [_, _]) => return Some(Command::Differ {
+            scope: scope_of(numbers),
         }),
-        Verb::Place => Some(Command::Place { rule: first }),
-        Verb::Pick => Some(Command::Pick {
-            question: first,
-            option: second,
-        }),
-        Verb::Settle => Some(Command::Settle),
-        Verb::Standing => Some(Command::Standing { question: first }),
-        Verb::Overview => Some(Command::Overview),
-        Verb::Table | Verb::Gap | Verb::Open => None,
-    }
+        (Verb::Place, &[rule]) => Call::Place { rule },
+        (Verb::Pick, &[question, option]) => Call::Pick { question, option },
+        (Verb::Settle, []) => Call::Settle,
+        (Verb::Standing, &[question]) => Call::Standing { question },
+        (Verb::Overview, []) => Call::Overview,
+        _ => return None,
+    };
+    Some(Command::Call(call))
 }

@@ -1,5 +1,5 @@
-// Why a line cannot be read.
-ghost use Rattle.std.specs.Prelude.{◌≡◌, Some};
+// Why a line cannot be read. What is told is written out, since a derived `Display` promises no text.
+ghost use Rattle.std.specs.Prelude.{◌≡◌, Some, alloc_error};
 ghost use Rattle.reading.specs.declared.fault.Unread.TheVariants.{Wrong as Amiss, Memory as Spent};
 ghost use Rattle.reading.specs.Faults.{fault_text, mistake_text};
 ghost use Rattle.reading.specs.Plain.{mistake};
@@ -54,7 +54,7 @@ impl<'a> fmt::Display for Fault<'a> {
 #[derive(Clone, Copy)]
 pub enum Unread<'a> {
     Wrong(Wrong<'a>),
-    Memory,
+    Memory(AllocError),
 }
 
 impl<'a> From<Wrong<'a>> for Unread<'a> {
@@ -66,17 +66,17 @@ impl<'a> From<Wrong<'a>> for Unread<'a> {
 }
 
 impl<'a> From<AllocError> for Unread<'a> {
-    ghost from_gives = { λ _ r. r ≡ Spent };
+    ghost from_gives = { λ spent r. r ≡ Spent spent };
 
-    fn from(_e: AllocError) -> Unread<'a> {
-        Unread::Memory
+    fn from(spent: AllocError) -> Unread<'a> {
+        Unread::Memory(spent)
     }
 }
 
 impl<'a, T: Drop> From<AllocFailed<T>> for Unread<'a> {
-    ghost from_gives = { λ _ r. r ≡ Spent };
+    ghost from_gives = { λ _ r. r ≡ Spent alloc_error };
 
-    fn from(_e: AllocFailed<T>) -> Unread<'a> {
-        Unread::Memory
+    fn from(failed: AllocFailed<T>) -> Unread<'a> {
+        Unread::Memory(failed.into())
     }
 }

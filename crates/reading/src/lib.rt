@@ -3,4 +3,6 @@
 
 pub mod command;
 pub mod fault;
+pub mod numbers;
 pub mod parse;
+pub mod scopes;

@@ -1,5 +1,4 @@
 -- A record as plain values. Assumes nothing.
-use Rattle.std.specs.Prelude.{take}
 use Rattle.record.specs.State.{State}
 use Rattle.record.specs.declared.state.Record.{Record}
 
@@ -11,5 +10,5 @@ view r = record {
   placed = r.docket.placed;
   scopes = r.scopes;
   crossed = r.crossed;
-  log = take r.lines r.log;
+  log = r.log.items;
 }

@@ -7,7 +7,8 @@ ghost use Rattle.record.specs.View.{view};
 use crate::docket::Docket;
 use crate::problem::on_sheet;
 use crate::state::Record;
-use terms::line::{BLANK, LOG_LINES, Line};
+use arrayvec::ArrayVec;
+use terms::line::Line;
 use terms::refusal::Refusal;
 use terms::scope::{NO_SCOPE, Scope};
 use terms::{masks, scope};
@@ -22,8 +23,7 @@ impl Record {
             docket: Docket::unpicked(sizes)?,
             scopes: [NO_SCOPE; 64],
             crossed: [0; 16],
-            log: [BLANK; LOG_LINES],
-            lines: 0,
+            log: ArrayVec::new(),
         })
     }
 
@@ -98,8 +98,7 @@ impl Record {
         }
         let question = line.question as usize;
         self.crossed[question] = masks::with(self.crossed[question], line.option);
-        self.log[self.lines] = *line;
-        self.lines += 1;
+        self.log.push(*line);
         true
     }
 
@@ -109,14 +108,13 @@ impl Record {
         ensures count { IfOk result (λ n. n ≡ length (view self.now).log) }
         ensures buffer { lines.new ≡ overlaid (view self.now).log lines.old }
     {
-        let fit = self.lines.min(lines.len());
-        for i in 0..fit {
-            lines[i] = self.log[i];
-        }
-        if lines.len() < self.lines {
+        let log = self.log();
+        let fit = log.len().min(lines.len());
+        lines[..fit].copy_from_slice(&log[..fit]);
+        if fit < log.len() {
             Err(Refusal::TooFewLines)
         } else {
-            Ok(self.lines)
+            Ok(log.len())
         }
     }
 }

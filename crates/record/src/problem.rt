@@ -13,15 +13,15 @@ use terms::scope::Scope;
 fn check_sizes(sizes: &[u8]) -> Result<(), Refusal>
     ensures { told result ≡ open_fault sizes.now }
 {
-    if sizes.len() == 0 || sizes.len() > 16 {
+    if sizes.is_empty() || sizes.len() > 16 {
         return Err(Refusal::QuestionCount);
     }
-    for q in 0..sizes.len() {
-        if sizes[q] == 0 || sizes[q] > 32 {
-            return Err(Refusal::SizeOutOfRange { question: q as u8 });
-        }
+    match sizes.iter().position(|size| *size == 0 || *size > 32) {
+        Some(question) => Err(Refusal::SizeOutOfRange {
+            question: question as u8,
+        }),
+        None => Ok(()),
     }
-    Ok(())
 }
 
 // The sizes, and 0 past the last question.
@@ -30,9 +30,7 @@ fn padded(sizes: &[u8]) -> [u8; 16]
     ensures { result ≡ sizes.now ++ replicate (16 - length sizes.now) 0 }
 {
     let mut all = [0; 16];
-    for q in 0..sizes.len() {
-        all[q] = sizes[q];
-    }
+    all[..sizes.len()].copy_from_slice(sizes);
     all
 }
 
@@ -40,13 +38,7 @@ fn padded(sizes: &[u8]) -> [u8; 16]
 pub(crate) fn on_sheet(scope: Scope, count: u8) -> bool
     ensures { result ≡ all_below count (questions_of scope) }
 {
-    let positions = scope.count.min(4) as usize;
-    for question in &scope.questions[0..positions] {
-        if *question >= count {
-            return false;
-        }
-    }
-    true
+    scope.tied().iter().all(|question| *question < count)
 }
 
 impl Docket {
@@ -66,18 +58,11 @@ impl Docket {
     }
 
     // The problem with the pick noted.
-    pub(crate) fn with_pick(self, question: usize, option: u8) -> Docket
+    pub(crate) fn with_pick(mut self, question: usize, option: u8) -> Docket
         requires { option < slice_index self.sizes question }
         ensures { WithPick self question option result }
     {
-        let mut picks = self.picks;
-        picks[question] = Some(option);
-        let sizes = self.sizes;
-        Docket {
-            count: self.count,
-            sizes,
-            picks,
-            placed: self.placed,
-        }
+        self.picks[question] = Some(option);
+        self
     }
 }

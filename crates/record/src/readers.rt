@@ -1,4 +1,6 @@
 // Reading a problem and a record.
+#![tactic(auto, unfolding(crate::specs::View::view, crate::specs::Calls::standing_each))]
+
 ghost use Rattle.std.specs.Prelude.{◌≡◌, ◌≤◌, length, None, slice_index, slice_index_or};
 ghost use Rattle.terms.specs.Masks.{has, declared_each};
 ghost use Rattle.record.specs.Calls.{standing_each};
@@ -7,6 +9,7 @@ ghost use Rattle.record.specs.View.{view};
 
 use crate::docket::Docket;
 use crate::state::Record;
+use terms::line::Line;
 use terms::masks;
 use terms::scope::{NO_SCOPE, Scope};
 
@@ -22,16 +25,14 @@ impl Docket {
     pub fn size(&self, question: u8) -> u8
         ensures { result ≡ slice_index self.now.sizes question }
     {
-        let q = question as usize;
-        if q < 16 { self.sizes[q] } else { 0 }
+        self.sizes.get(question as usize).copied().unwrap_or(0)
     }
 
     // A question's pick.
     pub fn pick(&self, question: u8) -> Option<u8>
         ensures { result ≡ slice_index_or self.now.picks question None }
     {
-        let q = question as usize;
-        if q < 16 { self.picks[q] } else { None }
+        self.picks.get(question as usize).copied().flatten()
     }
 
     // The placed rules: bit r is rule r.
@@ -61,11 +62,7 @@ impl Record {
     pub fn scope(&self, rule: u8) -> Scope
         ensures { result ≡ slice_index_or (view self.now).scopes rule unscoped }
     {
-        if rule < 64 {
-            self.scopes[rule as usize]
-        } else {
-            NO_SCOPE
-        }
+        self.scopes.get(rule as usize).copied().unwrap_or(NO_SCOPE)
     }
 
     // The declared options, question by question.
@@ -84,8 +81,16 @@ impl Record {
 
     // How many lines the log has.
     pub fn lines(&self) -> usize
-        ensures { (result ≡ length (view self.now).log) × (result ≤ 512) }
+        ensures count { result ≡ length (view self.now).log }
+        ensures room { result ≤ 512 }
     {
-        self.lines
+        self.log.len()
+    }
+
+    // The log, from its first line.
+    pub fn log(&self) -> &[Line]
+        ensures { result.now ≡ (view self.now).log }
+    {
+        self.log.as_slice()
     }
 }

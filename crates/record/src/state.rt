@@ -1,9 +1,10 @@
 // What a sheet holds, and what is true of it at all times.
-ghost use Rattle.std.specs.Prelude.{◌≡◌, length, take};
+ghost use Rattle.std.specs.Prelude.{◌≡◌, length};
 ghost use Rattle.record.specs.State.{total};
 ghost use Rattle.record.specs.Sound.{Heads, Declared, Once, Backed};
 
 use crate::docket::Docket;
+use arrayvec::ArrayVec;
 use terms::line::{LOG_LINES, Line};
 use terms::scope::Scope;
 
@@ -15,14 +16,12 @@ pub struct Record {
     pub(crate) docket: Docket,
     pub(crate) scopes: [Scope; 64],
     pub(crate) crossed: [u32; 16],
-    pub(crate) log: [Line; LOG_LINES],
-    pub(crate) lines: usize,
+    pub(crate) log: ArrayVec<Line, LOG_LINES>,
     ghost rules: { length scopes ≡ 64 },
     ghost questions: { length crossed ≡ 16 },
-    ghost room: { length log ≡ 512 },
-    ghost heads: { Heads crossed (take lines log) },
-    ghost declared: { Declared docket.sizes (take lines log) },
-    ghost once: { Once (take lines log) },
-    ghost backed: { Backed docket.placed scopes (take lines log) },
-    ghost counted: { total crossed ≡ lines },
+    ghost heads: { Heads crossed log.items },
+    ghost declared: { Declared docket.sizes log.items },
+    ghost once: { Once log.items },
+    ghost backed: { Backed docket.placed scopes log.items },
+    ghost counted: { total crossed ≡ length log.items },
 }

@@ -2,7 +2,6 @@
 ghost use Rattle.std.specs.Prelude.{◌≡◌, length, IfOk, slice_index};
 ghost use Rattle.record.specs.Told.{told, unless};
 ghost use Rattle.record.specs.Calls.{open_fault, opened, noted_rule, pick_fault, noted_pick, standing_each, overlaid, copy_fault};
-ghost use Rattle.record.specs.View.{view};
 ghost use Rattle.sheet.specs.Calls.{rule_fault, question_fault};
 ghost use Rattle.sheet.specs.Valid.{Valid};
 
@@ -17,9 +16,8 @@ impl<'a, B: ReasoningBook> Sheet<'a, B> {
     // A sheet with no picks, no placed rules and an empty log, which is valid.
     pub fn open(book: &'a B, sizes: &[u8]) -> Result<Sheet<'a, B>, Refusal>
         ensures answer { told result ≡ open_fault sizes.now }
-        ensures state { IfOk result (λ s. view s.state ≡ opened sizes.now) }
-        ensures book { IfOk result (λ s. s.book.now ≡ book.now) }
-        ensures valid { IfOk result (λ s. Valid (B.Book.model book.now) (view s.state)) }
+        ensures sheet { IfOk result (λ s. s ≡ record { book = book.now; state = opened sizes.now }) }
+        ensures valid { IfOk result (λ s. Valid (B.Book.model book.now) s.state) }
     {
         let state = Record::open(sizes)?;
         Ok(Sheet { book, state })
@@ -27,10 +25,9 @@ impl<'a, B: ReasoningBook> Sheet<'a, B> {
 
     // Notes the rule with its questions.
     pub fn place(&mut self, rule: u8) -> Result<(), Refusal>
-        ensures answer { told result ≡ rule_fault (B.Book.model self.old.book.now) (view self.old.state) rule }
-        ensures after { view self.new.state ≡ unless (told result) (view self.old.state) (noted_rule (view self.old.state) rule ((B.Book.model self.old.book.now).scope rule)) }
-        ensures book { self.new.book.now ≡ self.old.book.now }
-        ensures valid { Valid (B.Book.model self.old.book.now) (view self.old.state) → Valid (B.Book.model self.old.book.now) (view self.new.state) }
+        ensures answer { told result ≡ rule_fault (B.Book.model self.old.book) self.old.state rule }
+        ensures after { self.new ≡ record { book = self.old.book; state = unless (told result) self.old.state (noted_rule self.old.state rule ((B.Book.model self.old.book).scope rule)) } }
+        ensures valid { Valid (B.Book.model self.old.book) self.old.state → Valid (B.Book.model self.old.book) self.new.state }
     {
         self.book.lawful();
         if rule >= self.book.rules() {
@@ -42,18 +39,17 @@ impl<'a, B: ReasoningBook> Sheet<'a, B> {
 
     // Notes the pick.
     pub fn pick(&mut self, question: u8, option: u8) -> Result<(), Refusal>
-        ensures answer { told result ≡ pick_fault (view self.old.state) question option }
-        ensures after { view self.new.state ≡ unless (told result) (view self.old.state) (noted_pick (view self.old.state) question option) }
-        ensures book { self.new.book.now ≡ self.old.book.now }
-        ensures valid { Valid (B.Book.model self.old.book.now) (view self.old.state) → Valid (B.Book.model self.old.book.now) (view self.new.state) }
+        ensures answer { told result ≡ pick_fault self.old.state question option }
+        ensures after { self.new ≡ record { book = self.old.book; state = unless (told result) self.old.state (noted_pick self.old.state question option) } }
+        ensures valid { Valid (B.Book.model self.old.book) self.old.state → Valid (B.Book.model self.old.book) self.new.state }
     {
         self.state.pick(question, option)
     }
 
     // The standing options of one question.
     pub fn standing(&self, question: u8) -> Result<u32, Refusal>
-        ensures answer { told result ≡ question_fault (view self.now.state) question }
-        ensures mask { IfOk result (λ m. m ≡ slice_index (standing_each (view self.now.state)) question) }
+        ensures answer { told result ≡ question_fault self.now.state question }
+        ensures mask { IfOk result (λ m. m ≡ slice_index (standing_each self.now.state) question) }
     {
         if question >= self.docket().count() {
             return Err(Refusal::NoSuchQuestion { question });
@@ -64,23 +60,33 @@ impl<'a, B: ReasoningBook> Sheet<'a, B> {
 
     // The standing options of every question, and nothing past the last.
     pub fn overview(&self) -> [u32; 16]
-        ensures { result ≡ standing_each (view self.now.state) }
+        ensures { result ≡ standing_each self.now.state }
     {
         self.state.standing()
     }
 
     // The problem that the sheet is about.
     pub fn docket(&self) -> Docket
-        ensures { result ≡ self.now.state.docket }
+        ensures count { result.count ≡ self.now.state.count }
+        ensures sizes { result.sizes ≡ self.now.state.sizes }
+        ensures picks { result.picks ≡ self.now.state.picks }
+        ensures placed { result.placed ≡ self.now.state.placed }
     {
         self.state.docket()
     }
 
+    // The log, from its first line.
+    pub fn log(&self) -> &[Line]
+        ensures { result.now ≡ self.now.state.log }
+    {
+        self.state.log()
+    }
+
     // Copies the log into the caller's lines and answers how many there are; too few places get the first lines that fit.
     pub fn copy_log(&self, lines: &mut [Line]) -> Result<usize, Refusal>
-        ensures answer { told result ≡ copy_fault (view self.now.state).log lines.old }
-        ensures count { IfOk result (λ n. n ≡ length (view self.now.state).log) }
-        ensures buffer { lines.new ≡ overlaid (view self.now.state).log lines.old }
+        ensures answer { told result ≡ copy_fault self.now.state.log lines.old }
+        ensures count { IfOk result (λ n. n ≡ length self.now.state.log) }
+        ensures buffer { lines.new ≡ overlaid self.now.state.log lines.old }
     {
         self.state.copy_log(lines)
     }

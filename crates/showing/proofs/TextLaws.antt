@@ -1,5 +1,5 @@
 -- Laws of the texts, one part more at a time. Assumes nothing.
-use Rattle.std.proofs.Common.{◌≡◌, ℕ, zero, suc, ◌+◌, ◌-◌, ◌^◌, ◌<◌, true, false, List, [], ◌∷◌, ◌++◌, length, get_or, codes, decimal, sym, refl, ap, ◌∙◌, add-one, arith, eq-eqb, ne_eqb}
+use Rattle.std.proofs.Common.{◌≡◌, ℕ, ◌+◌, ◌^◌, ◌<◌, true, false, List, [], ◌∷◌, ◌++◌, length, get_or, codes, decimal, refl, ap, ◌∙◌, add-one, arith, eq-eqb, ne_eqb}
 use Rattle.std.proofs.lemmas.Fmt.{decimal_nonempty}
 use Rattle.terms.specs.Masks.{has}
 use Rattle.terms.specs.declared.line.Line.{Line}
@@ -40,13 +40,9 @@ pub options_text_some : (m : ℕ) → (m ≡ 0 → ⊥) → options_text m ≡ o
 unfolding options_text
 options_text_some m ne = rw (ne_eqb m 0 ne, options_text)
 
-pub further_more : (n : ℕ) (masks : List ℕ) → 0 < n → further (n + 1 - 1) masks ≡ further (n - 1) masks ++ (codes " / " ++ options_text (get_or masks n 0))
+pub further_more : (n : ℕ) (masks : List ℕ) → further (n + 1) masks ≡ further n masks ++ (codes " / " ++ options_text (get_or masks (n + 1) 0))
 unfolding further
-further_more zero masks h = absurd (omega (arith, h))
-further_more (suc n) masks h =
-    let e : suc n + 1 - 1 ≡ suc n = omega arith in
-    let d : suc n - 1 ≡ n = omega arith in
-    ap (λ k. further k masks) e ∙ ap (λ k. further k masks ++ (codes " / " ++ options_text (get_or masks (suc n) 0))) (sym d)
+further_more n masks = rw add-one
 
 pub named_more : (n q m : ℕ) → has m n ≡ true → named_below (n + 1) q m ≡ named_below n q m ++ (codes " " ++ (decimal q ++ (codes ":" ++ decimal n)))
 unfolding named_below

@@ -3,7 +3,7 @@ ghost use Rattle.std.specs.Prelude.{◌≡◌, Some};
 ghost use Rattle.showing.specs.Texts.{named_text, because_text, logged_text, no_options};
 
 use std::fmt;
-use terms::line::{Line, PICK};
+use terms::line::{Kind, Line};
 use terms::masks::has;
 use terms::scope::Scope;
 
@@ -32,8 +32,7 @@ impl fmt::Display for Named {
 fn is_empty(reason: [u32; 4]) -> bool
     ensures { result ≡ no_options reason }
 {
-    let [first, second, third, fourth] = reason;
-    first == 0 && second == 0 && third == 0 && fourth == 0
+    reason.iter().all(|mask| *mask == 0)
 }
 
 // The options that a reason names, with their questions; nothing for an empty reason.
@@ -51,10 +50,10 @@ impl fmt::Display for Because {
             return Ok(());
         }
         f.write_str(" because")?;
-        for position in 0..4usize {
+        for (question, mask) in self.questions.iter().zip(self.reason.iter()) {
             let named = Named {
-                question: self.questions[position],
-                mask: self.reason[position],
+                question: *question,
+                mask: *mask,
             };
             write!(f, "{named}")?;
         }
@@ -75,7 +74,7 @@ impl fmt::Display for Logged {
     fn fmt<W: fmt::Write>(&self, f: &mut fmt::Formatter<W>) -> fmt::Result {
         let question = self.line.question;
         let option = self.line.option;
-        if self.line.kind == PICK {
+        if self.line.kind == u8::from(Kind::Pick) {
             return write!(f, "pick crosses {question} {option}");
         }
         let rule = self.line.rule;

@@ -18,8 +18,8 @@ impl fmt::Display for Overview {
     fn fmt<W: fmt::Write>(&self, f: &mut fmt::Formatter<W>) -> fmt::Result {
         let first = Options(self.masks[0]);
         write!(f, "{first}")?;
-        for question in 1..self.count.min(16) {
-            let options = Options(self.masks[question as usize]);
+        for mask in &self.masks[1..usize::from(self.count.clamp(1, 16))] {
+            let options = Options(*mask);
             write!(f, " / {options}")?;
         }
         Ok(())

@@ -10,7 +10,7 @@ use Rattle.ledger.specs.Ledgers.{ledger_fault}
 use Rattle.record.specs.Calls.{open_fault}
 use Rattle.sheet.specs.Settle.{Reasons}
 use Rattle.lines.specs.Marks.{Noted}
-use Rattle.showing.specs.Denials.{denied_text}
+use Rattle.terms.specs.Denials.{denied_text}
 use Rattle.sitting.specs.Tales.{Tale, answered}
 use Rattle.sitting.specs.Sittings.{Opening, Rules, opened_text, attended, unless_denied, unless_refused, refused_book, on_book, on_two, on_three, on_rules}
 

@@ -4,7 +4,7 @@ use Rattle.terms.specs.declared.line.Line.{Line}
 use Rattle.books.specs.Plain.{Plain}
 use Rattle.record.specs.State.{State}
 use Rattle.calls.specs.Answers.{overview_of}
-use Rattle.showing.specs.Answers.{answer_text}
+use Rattle.calls.specs.Texts.{answer_text}
 use Rattle.showing.specs.Texts.{logged_text}
 use Rattle.sitting.specs.Tales.{Tale, lined, answered}
 

@@ -4,13 +4,12 @@ use Rattle.books.specs.Plain.{Plain}
 use Rattle.record.specs.State.{State}
 use Rattle.sheet.specs.Settle.{Reasons}
 use Rattle.calls.specs.Answers.{answer_of, after_call}
-use Rattle.calls.specs.declared.call.Call.{Call}
-use Rattle.calls.specs.declared.call.Call.TheVariants.{Place, Pick, Settle, Standing, Overview}
+use Rattle.calls.specs.Texts.{told_text}
+use Rattle.terms.specs.declared.call.Call.{Call}
 use Rattle.lines.specs.Marks.{Noted}
-use Rattle.reading.specs.Plain.{Said, table, gap, differ, opens, place, pick, settle, standing, overview, Heard, says, wrong}
+use Rattle.reading.specs.Plain.{Said, table, gap, differ, opens, call, Heard, says, wrong}
 use Rattle.reading.specs.Readings.{heard_of}
 use Rattle.reading.specs.Faults.{fault_text}
-use Rattle.showing.specs.Answers.{answer_text}
 use Rattle.sitting.specs.Tales.{Tale, answered, faulted}
 
 -- a sheet, and what was told so far
@@ -27,14 +26,10 @@ call_in (table scope rows) = Err closed_text
 call_in (gap scope distance) = Err closed_text
 call_in (differ scope) = Err closed_text
 call_in (opens sizes) = Err (codes "a sheet is open already; expected: a call on it")
-call_in (place rule) = Ok (Place rule)
-call_in (pick question option) = Ok (Pick question option)
-call_in settle = Ok Settle
-call_in (standing question) = Ok (Standing question)
-call_in overview = Ok Overview
+call_in (call c) = Ok c
 
 abbrev pub called : Plain → Reasons → Noted → Result Call (List ℕ) → Scene → Scene
-called b why n (Ok call) s = record { state = after_call b why call s.state; tale = answered n.text (answer_text (answer_of b why call s.state)) s.tale }
+called b why n (Ok c) s = record { state = after_call b why c s.state; tale = answered n.text (told_text (answer_of b why c s.state)) s.tale }
 called b why n (Err what) s = record { state = s.state; tale = faulted n.number what s.tale }
 
 abbrev pub obeyed : Plain → Reasons → Noted → Heard → Scene → Scene

@@ -14,10 +14,10 @@ use Rattle.ledger.specs.declared.ledger.Ledger.{Ledger}
 use Rattle.record.specs.Calls.{open_fault, opened}
 use Rattle.sheet.specs.Settle.{Reasons}
 use Rattle.lines.specs.Marks.{Noted, entries_of}
-use Rattle.reading.specs.Plain.{Said, table, gap, differ, opens, place, pick, settle, standing, overview, Heard, says, wrong}
+use Rattle.reading.specs.Plain.{Said, table, gap, differ, opens, call, Heard, says, wrong}
 use Rattle.reading.specs.Readings.{heard_of}
 use Rattle.reading.specs.Faults.{fault_text}
-use Rattle.showing.specs.Denials.{denied_text}
+use Rattle.terms.specs.Denials.{denied_text}
 use Rattle.sitting.specs.Tales.{Tale, lined, answered, faulted}
 use Rattle.sitting.specs.Scenes.{Scene, all_obeyed}
 use Rattle.sitting.specs.Closings.{closing_told}
@@ -96,11 +96,7 @@ with_rule (table scope rows) l =
 with_rule (gap scope distance) l = record { rows = l.rows; tables = l.tables; gaps = l.gaps ++ record { scope = scope; distance = distance } ∷ []; differs = l.differs }
 with_rule (differ scope) l = record { rows = l.rows; tables = l.tables; gaps = l.gaps; differs = l.differs ++ scope ∷ [] }
 with_rule (opens sizes) l = l
-with_rule (place rule) l = l
-with_rule (pick question option) l = l
-with_rule settle l = l
-with_rule (standing question) l = l
-with_rule overview l = l
+with_rule (call c) l = l
 
 abbrev pub rule_noted : Noted → Tale → Tale
 rule_noted n t = answered n.text (codes "noted") t
@@ -114,11 +110,7 @@ note_told n (table scope rows) t = rule_noted n t
 note_told n (gap scope distance) t = rule_noted n t
 note_told n (differ scope) t = rule_noted n t
 note_told n (opens sizes) t = too_early n t
-note_told n (place rule) t = too_early n t
-note_told n (pick question option) t = too_early n t
-note_told n settle t = too_early n t
-note_told n (standing question) t = too_early n t
-note_told n overview t = too_early n t
+note_told n (call c) t = too_early n t
 
 -- one line after another
 
@@ -136,11 +128,7 @@ said_turn l n (table scope rows) ns t = note_turn l n (table scope rows) t
 said_turn l n (gap scope distance) ns t = note_turn l n (gap scope distance) t
 said_turn l n (differ scope) ns t = note_turn l n (differ scope) t
 said_turn l n (opens sizes) ns t = record { done = (on_rules l n sizes ns t).done; rules = l; tale = (on_rules l n sizes ns t).tale }
-said_turn l n (place rule) ns t = note_turn l n (place rule) t
-said_turn l n (pick question option) ns t = note_turn l n (pick question option) t
-said_turn l n settle ns t = note_turn l n settle t
-said_turn l n (standing question) ns t = note_turn l n (standing question) t
-said_turn l n overview ns t = note_turn l n overview t
+said_turn l n (call c) ns t = note_turn l n (call c) t
 
 -- a line, with those that follow it
 abbrev pub turn : Rules → Noted → Heard → List Noted → Tale → Turn

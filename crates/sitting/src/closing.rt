@@ -1,17 +1,15 @@
 // How a sheet stands at the end of a sitting, and how it came to it.
-ghost use Rattle.std.specs.Prelude.{◌≡◌, ◌≤◌, length, take, OnOk};
-ghost use Rattle.record.specs.View.{view};
+ghost use Rattle.std.specs.Prelude.{◌≡◌, OnOk};
 ghost use Rattle.sitting.specs.Tales.{tale};
 ghost use Rattle.sitting.specs.Closings.{log_told, closing_told};
 
 use books::book::{Book, ReasoningBook};
 use calls::make::overview;
 use sheet::sheet::Sheet;
-use showing::answer::Answered;
 use showing::logged::Logged;
 use std::alloc::AllocError;
 use telling::told::Told;
-use terms::line::{BLANK, LOG_LINES, Line};
+use terms::line::Line;
 
 // Tells the lines of a log, each with the questions of its rule.
 fn tell_log<B: Book>(told: &mut Told, book: &B, log: &[Line]) -> Result<(), AllocError>
@@ -27,31 +25,14 @@ fn tell_log<B: Book>(told: &mut Told, book: &B, log: &[Line]) -> Result<(), Allo
     Ok(())
 }
 
-// Those of the first `count` lines.
-fn tell_first<B: Book>(
-    told: &mut Told,
-    book: &B,
-    lines: &[Line],
-    count: usize,
-) -> Result<(), AllocError>
-    requires { count ≤ length lines.now }
-    ensures { OnOk result (tale told.new ≡ log_told (B.Book.model book.now) 0 (take count lines.now) (tale told.old)) }
-{
-    tell_log(told, book, &lines[0..count])
-}
-
 // Tells what stands, and the log.
 pub(crate) fn close<B: ReasoningBook>(
     told: &mut Told,
     book: &B,
     sheet: &Sheet<'_, B>,
 ) -> Result<(), AllocError>
-    ensures { OnOk result (tale told.new ≡ closing_told (B.Book.model book.now) (view sheet.now.state) (tale told.old)) }
+    ensures { OnOk result (tale told.new ≡ closing_told (B.Book.model book.now) sheet.now.state (tale told.old)) }
 {
-    told.answer("closing overview", Answered(overview(sheet)))?;
-    let mut lines = [BLANK; LOG_LINES];
-    match sheet.copy_log(&mut lines) {
-        Ok(count) => tell_first(told, book, &lines, count),
-        Err(_) => unreachable(),
-    }
+    told.answer("closing overview", overview(sheet))?;
+    tell_log(told, book, sheet.log())
 }

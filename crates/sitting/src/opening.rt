@@ -1,6 +1,5 @@
 // Opening a sheet on the rules that were gathered.
 ghost use Rattle.std.specs.Prelude.{◌≡◌, map, IfOk, OnOk};
-ghost use Rattle.record.specs.View.{view};
 ghost use Rattle.lines.specs.Marks.{noted};
 ghost use Rattle.sitting.specs.Tales.{tale};
 ghost use Rattle.sitting.specs.Closings.{closing_told};
@@ -11,55 +10,55 @@ use crate::calling::obey_all;
 use crate::closing::close;
 use books::book::{Book, ReasoningBook};
 use books::pair::Pair;
-use differs::differ::DifferBook;
-use gaps::gap::GapBook;
 use ledger::ledger::Ledger;
 use lines::words::Entry;
 use sheet::sheet::Sheet;
-use showing::denied::Denied;
-use std::alloc::{AllocError, Global};
-use tables::table::TableBook;
+use std::alloc::AllocError;
 use telling::told::Told;
 use terms::refusal::Refusal;
 
+// The line that opens a sheet, with the sizes that it gives and the lines that follow it.
+#[derive(Clone, Copy)]
+pub(crate) struct Opening<'e> {
+    pub(crate) line: Entry<'e>,
+    pub(crate) sizes: &'e [u8],
+    pub(crate) calls: &'e [Entry<'e>],
+}
+
 // Makes the calls that follow on the sheet, and closes it.
 fn attend<B: ReasoningBook>(
-    heap: Global,
     told: &mut Told,
     book: &B,
     sheet: &mut Sheet<'_, B>,
     calls: &[Entry<'_>],
 ) -> Result<(), AllocError>
-    ensures { OnOk result (tale told.new ≡ closing_told (B.Book.model book.now) (all_obeyed (B.Book.model sheet.old.book.now) (B.reasons sheet.old.book.now) (map noted calls.now) (record { state = view sheet.old.state; tale = tale told.old })).state (all_obeyed (B.Book.model sheet.old.book.now) (B.reasons sheet.old.book.now) (map noted calls.now) (record { state = view sheet.old.state; tale = tale told.old })).tale) }
+    ensures { OnOk result (tale told.new ≡ closing_told (B.Book.model book.now) (all_obeyed (B.Book.model sheet.old.book) (B.reasons sheet.old.book) (map noted calls.now) (record { state = sheet.old.state; tale = tale told.old })).state (all_obeyed (B.Book.model sheet.old.book) (B.reasons sheet.old.book) (map noted calls.now) (record { state = sheet.old.state; tale = tale told.old })).tale) }
 {
-    obey_all(heap, told, sheet, calls)?;
+    obey_all(told, sheet, calls)?;
     close(told, book, sheet)
 }
 
 // Opens a sheet on the book, unless it is refused; says whether it did.
 fn open_on<B: ReasoningBook>(
-    heap: Global,
     told: &mut Told,
     book: &B,
-    entry: Entry<'_>,
-    sizes: &[u8],
-    calls: &[Entry<'_>],
+    opening: Opening<'_>,
 ) -> Result<bool, AllocError>
-    ensures { IfOk result (λ done. record { done = done; tale = tale told.new } ≡ on_book (B.Book.model book.now) (B.reasons book.now) (noted entry.entry) sizes.now (map noted calls.now) (tale told.old)) }
+    ensures { IfOk result (λ done. record { done = done; tale = tale told.new } ≡ on_book (B.Book.model book.now) (B.reasons book.now) (noted opening.entry.line) opening.entry.sizes.now (map noted opening.entry.calls.now) (tale told.old)) }
 {
-    match Sheet::open(book, sizes) {
+    match Sheet::open(book, opening.sizes) {
         Ok(mut sheet) => {
             let questions = sheet.docket().count();
             let rules = book.rules();
             told.answer(
-                entry.text,
+                opening.line.text,
                 format_args!("{questions} questions, {rules} rules"),
             )?;
-            attend(heap, told, book, &mut sheet, calls)?;
+            attend(told, book, &mut sheet, opening.calls)?;
             Ok(true)
         }
         Err(refusal) => {
-            told.answer(entry.text, Denied(refusal))?;
+            told.answer(opening.line.text, refusal)?;
             Ok(false)
         }
     }
@@ -69,63 +68,51 @@ fn open_on<B: ReasoningBook>(
 fn refuse(told: &mut Told, entry: Entry<'_>, refusal: Refusal) -> Result<bool, AllocError>
     ensures { IfOk result (λ done. record { done = done; tale = tale told.new } ≡ refused_book (noted entry.entry) refusal (tale told.old)) }
 {
-    told.fault(entry.number, Denied(refusal))?;
+    told.fault(entry.number, refusal)?;
     Ok(false)
 }
 
 // On two books as one. Their kinds are parameters, so that each pair lends from one lifetime.
 fn open_on_two<'a, F: ReasoningBook, S: ReasoningBook>(
-    heap: Global,
     told: &mut Told,
     first: &'a F,
     second: &'a S,
-    entry: Entry<'_>,
-    sizes: &[u8],
-    calls: &[Entry<'_>],
+    opening: Opening<'_>,
 ) -> Result<bool, AllocError>
-    ensures { IfOk result (λ done. record { done = done; tale = tale told.new } ≡ on_two (F.Book.model first.now) (F.ReasoningBook.reasons first.now) (S.Book.model second.now) (S.ReasoningBook.reasons second.now) (noted entry.entry) sizes.now (map noted calls.now) (tale told.old)) }
+    ensures { IfOk result (λ done. record { done = done; tale = tale told.new } ≡ on_two (F.Book.model first.now) (F.ReasoningBook.reasons first.now) (S.Book.model second.now) (S.ReasoningBook.reasons second.now) (noted opening.entry.line) opening.entry.sizes.now (map noted opening.entry.calls.now) (tale told.old)) }
 {
     match Pair::new(first, second) {
-        Ok(book) => open_on(heap, told, &book, entry, sizes, calls),
-        Err(refusal) => refuse(told, entry, refusal),
+        Ok(book) => open_on(told, &book, opening),
+        Err(refusal) => refuse(told, opening.line, refusal),
     }
 }
 
 // On three: the second and the third are a pair, and the first with that pair.
 fn open_on_three<'a, F: ReasoningBook, S: ReasoningBook, T: ReasoningBook>(
-    heap: Global,
     told: &mut Told,
     first: &'a F,
     second: &'a S,
     third: &'a T,
-    entry: Entry<'_>,
-    sizes: &[u8],
-    calls: &[Entry<'_>],
+    opening: Opening<'_>,
 ) -> Result<bool, AllocError>
-    ensures { IfOk result (λ done. record { done = done; tale = tale told.new } ≡ on_three (F.Book.model first.now) (F.ReasoningBook.reasons first.now) (S.Book.model second.now) (S.ReasoningBook.reasons second.now) (T.Book.model third.now) (T.ReasoningBook.reasons third.now) (noted entry.entry) sizes.now (map noted calls.now) (tale told.old)) }
+    ensures { IfOk result (λ done. record { done = done; tale = tale told.new } ≡ on_three (F.Book.model first.now) (F.ReasoningBook.reasons first.now) (S.Book.model second.now) (S.ReasoningBook.reasons second.now) (T.Book.model third.now) (T.ReasoningBook.reasons third.now) (noted opening.entry.line) opening.entry.sizes.now (map noted opening.entry.calls.now) (tale told.old)) }
 {
     match Pair::new(second, third) {
-        Ok(rest) => open_on_two(heap, told, first, &rest, entry, sizes, calls),
-        Err(refusal) => refuse(told, entry, refusal),
+        Ok(rest) => open_on_two(told, first, &rest, opening),
+        Err(refusal) => refuse(told, opening.line, refusal),
     }
 }
 
 // Makes the book as it is now, and opens a sheet on it for the calls that follow, unless book or sheet is refused.
 pub(crate) fn open(
-    heap: Global,
     told: &mut Told,
     ledger: &Ledger,
-    entry: Entry<'_>,
-    sizes: &[u8],
-    calls: &[Entry<'_>],
+    opening: Opening<'_>,
 ) -> Result<bool, AllocError>
-    ensures { IfOk result (λ done. record { done = done; tale = tale told.new } ≡ on_rules (rules_of ledger.now) (noted entry.entry) sizes.now (map noted calls.now) (tale told.old)) }
+    ensures { IfOk result (λ done. record { done = done; tale = tale told.new } ≡ on_rules (rules_of ledger.now) (noted opening.entry.line) opening.entry.sizes.now (map noted opening.entry.calls.now) (tale told.old)) }
 {
-    let mut tables = TableBook::empty();
-    let mut gaps = GapBook::empty();
-    let mut differs = DifferBook::empty();
-    if let Err(refusal) = ledger.load(&mut tables, &mut gaps, &mut differs) {
-        return refuse(told, entry, refusal);
+    match ledger.books() {
+        Ok(books) => open_on_three(told, &books.tables, &books.gaps, &books.differs, opening),
+        Err(refusal) => refuse(told, opening.line, refusal),
     }
-    open_on_three(heap, told, &tables, &gaps, &differs, entry, sizes, calls)
 }

@@ -6,11 +6,11 @@ ghost use Rattle.lines.specs.Marks.{noted};
 ghost use Rattle.sitting.specs.Tales.{tale};
 ghost use Rattle.sitting.specs.Sittings.{rules_of, no_rules, with_rule, note_told, turn, lines_told, sitting_told};
 
-use crate::opening::open;
+use crate::opening::{Opening, open};
 use ledger::ledger::Ledger;
 use lines::words::{Entry, entries};
 use reading::command::Command;
-use reading::parse::{Reading, read};
+use reading::parse::read;
 use std::alloc::{AllocError, Global};
 use telling::told::Told;
 
@@ -38,7 +38,6 @@ fn note(
 
 // Takes one line, before a sheet is open; says whether it opened one, on which those that follow were then made.
 fn take(
-    heap: Global,
     told: &mut Told,
     ledger: &mut Ledger,
     entry: Entry<'_>,
@@ -46,32 +45,32 @@ fn take(
 ) -> Result<bool, AllocError>
     ensures { IfOk result (λ done. record { done = done; rules = rules_of ledger.new; tale = tale told.new } ≡ turn (rules_of ledger.old) (noted entry.entry) (heard_of entry.entry.text.now) (map noted rest.now) (tale told.old)) }
 {
-    match read(heap, entry.text)? {
-        Reading::Command(Command::Open { sizes }) => open(
-            heap,
-            told,
-            ledger,
-            entry,
-            sizes.as_slice(),
-            rest,
-        ),
-        Reading::Command(command) => {
+    match read(*told.text.allocator(), entry.text)? {
+        Ok(Command::Open { sizes }) => {
+            let opening = Opening {
+                line: entry,
+                sizes: sizes.as_slice(),
+                calls: rest,
+            };
+            open(told, ledger, opening)
+        }
+        Ok(command) => {
             note(told, ledger, entry, command)?;
             Ok(false)
         }
-        Reading::Fault(fault) => {
+        Err(fault) => {
             told.fault(entry.number, fault)?;
             Ok(false)
         }
     }
 }
 
-fn take_all(heap: Global, told: &mut Told, entries: &[Entry<'_>]) -> Result<(), AllocError>
+fn take_all(told: &mut Told, entries: &[Entry<'_>]) -> Result<(), AllocError>
     ensures { OnOk result (tale told.new ≡ lines_told no_rules (map noted entries.now) (tale told.old)) }
 {
-    let mut ledger = Ledger::new(heap);
-    for i in 0..entries.len() {
-        if take(heap, told, &mut ledger, entries[i], &entries[i + 1..])? {
+    let mut ledger = Ledger::new(*told.text.allocator());
+    for (index, entry) in entries.iter().enumerate() {
+        if take(told, &mut ledger, *entry, &entries[index + 1..])? {
             return Ok(());
         }
     }
@@ -84,6 +83,6 @@ pub fn run(heap: Global, text: &str) -> Result<Told, AllocError>
 {
     let entries = entries(heap, text)?;
     let mut told = Told::new(heap);
-    take_all(heap, &mut told, entries.as_slice())?;
+    take_all(&mut told, entries.as_slice())?;
     Ok(told)
 }

@@ -1,8 +1,9 @@
 -- What rows of a table hold, and how the tests on them go. Assumes nothing.
-use Rattle.std.proofs.Common.{◌≡◌, ℕ, zero, suc, ◌+◌, ◌*◌, ◌/◌, ◌%◌, ◌^◌, ◌<◌, Bool, true, false, not, eqb, ltb, ◌⊎◌, List, [], ◌∷◌, length, get_or, set, is_some, Some, None, Option, sym, refl, ap, ◌∙◌, subst, inl, inr, le_of_suc-le-suc, not-suc-le-zero, div-one, add-one, arith, shr-shr}
+use Rattle.std.proofs.Common.{◌≡◌, ℕ, zero, suc, ◌+◌, ◌*◌, ◌/◌, ◌%◌, ◌^◌, ◌<◌, Bool, true, false, cond, not, ◌&&◌, eqb, ltb, ◌⊎◌, List, [], ◌∷◌, length, get_or, set, is_some, Some, None, Option, sym, refl, ap, ◌∙◌, subst, inl, inr, le_of_suc-le-suc, not-suc-le-zero, div-one, add-one, add-zero, zero-add, arith, shr-shr}
+use Rattle.std.specs.List.{list_all, find, range_with_len}
 use Rattle.std.proofs.lemmas.Bool.{and_parts, and_from, cases_Bool, cases_eq, true≢false, false≢true, lt-ltb, ltb-true, eq-eqb, eqb-true}
 use Rattle.terms.specs.Masks.{with}
-use Rattle.tables.specs.Table.{option_at, options_of, same_options, some_row, all_rows, fits_at, unfit, row_supports, sound_at, sound_upto, note_row, note_rows}
+use Rattle.tables.specs.Table.{option_at, options_of, same_options, some_row, all_rows, fits_at, unfit, row_supports, sound_at, sound_upto, sound_row, note_row, note_rows}
 
 -- as the code reads it: shifted down, the lowest byte
 pub option_shifted : (row p : ℕ) → option_at row p ≡ row / 2 ^ (8 * p) % 256
@@ -80,6 +81,14 @@ pub all_none : (test : ℕ → Bool) → all_rows test [] ≡ true
 unfolding all_rows
 all_none test = refl
 
+pub all_in : (test : ℕ → Bool) (rows : List ℕ) → list_all test rows ≡ all_rows test rows
+all_in test [] = sym (all_none test)
+all_in test (row ∷ rows) =
+    elim (cases_Bool (test row)) [
+      | inl e ↦ ap (λ b. b && list_all test rows) e ∙ all_in test rows ∙ sym (all_later test row rows e)
+      | inr e ↦ ap (λ b. b && list_all test rows) e ∙ sym (all_fails test row rows e)
+    ]
+
 pub all_at : (test : ℕ → Bool) (rows : List ℕ) → all_rows test rows ≡ true → (i : ℕ) → i < length rows → test (get_or rows i 0) ≡ true
 all_at test [] e i h = absurd (not-suc-le-zero h)
 all_at test (row ∷ rows) e zero h =
@@ -91,6 +100,10 @@ all_at test (row ∷ rows) e (suc i) h =
     ]
 
 -- where a row does not fit
+
+abbrev or_else : Option ℕ → Option ℕ → Option ℕ
+or_else (Some j) u = Some j
+or_else None u = u
 
 pub unfit_more : (n p o : ℕ) (masks : List ℕ) (row : ℕ) → unfit n p o masks row ≡ None → fits_at p o masks n (option_at row n) ≡ true → unfit (suc n) p o masks row ≡ None
 unfolding unfit
@@ -123,6 +136,43 @@ unfit_past m (suc k) p o masks row j e =
 pub cases_unfit : (u : Option ℕ) → ((j : ℕ) × (u ≡ Some j)) ⊎ (u ≡ None)
 cases_unfit (Some j) = inl (j, refl)
 cases_unfit None = inr refl
+
+abbrev lacks_at : ℕ → ℕ → List ℕ → ℕ → ℕ → Bool
+lacks_at p o masks row j = not (fits_at p o masks j (option_at row j))
+
+-- the positions from a on, one by one
+unfit_from : (p o : ℕ) (masks : List ℕ) (row a n : ℕ) → or_else (unfit a p o masks row) (find (lacks_at p o masks row) (range_with_len a n)) ≡ unfit (a + n) p o masks row
+unfit_from p o masks row a zero = or_none (unfit a p o masks row) ∙ ap (λ k. unfit k p o masks row) (sym (add-zero a))
+  where
+    or_none : (u : Option ℕ) → or_else u None ≡ u
+    or_none (Some j) = refl
+    or_none None = refl
+unfit_from p o masks row a (suc n) =
+    elim (cases_unfit (unfit a p o masks row)) [
+      | inl w ↦
+          ap (λ u. or_else u (find (lacks_at p o masks row) (range_with_len a (suc n)))) w.1
+          ∙ sym (unfit_past a (suc n) p o masks row w.0 w.1)
+          ∙ ap (λ k. unfit k p o masks row) (omega arith)
+      | inr w ↦
+          ap (λ u. or_else u (find (lacks_at p o masks row) (range_with_len a (suc n)))) w
+          ∙ elim (cases_Bool (fits_at p o masks a (option_at row a))) [
+            | inl f ↦
+                ap (λ b. cond (not b) (Some a) (find (lacks_at p o masks row) (range_with_len (a + 1) n))) f
+                ∙ ap (λ u. or_else u (find (lacks_at p o masks row) (range_with_len (a + 1) n))) (sym (ap (λ k. unfit k p o masks row) (add-one a) ∙ unfit_more a p o masks row w f))
+                ∙ unfit_from p o masks row (a + 1) n
+                ∙ ap (λ k. unfit k p o masks row) (omega arith)
+            | inr f ↦
+                ap (λ b. cond (not b) (Some a) (find (lacks_at p o masks row) (range_with_len (a + 1) n))) f
+                ∙ sym (unfit_past (suc a) n p o masks row a (unfit_here a p o masks row w f))
+                ∙ ap (λ k. unfit k p o masks row) (omega arith)
+          ]
+    ]
+
+pub unfit_in : (n p o : ℕ) (masks : List ℕ) (row : ℕ) → find (λ j. not (fits_at p o masks j (option_at row j))) (range_with_len 0 n) ≡ unfit n p o masks row
+unfit_in n p o masks row =
+    ap (λ u. or_else u (find (λ j. not (fits_at p o masks j (option_at row j))) (range_with_len 0 n))) (sym (unfit_none p o masks row))
+    ∙ unfit_from p o masks row 0 n
+    ∙ ap (λ k. unfit k p o masks row) (zero-add n)
 
 -- it fits at every position
 pub fits_each : (n p o : ℕ) (masks : List ℕ) (row : ℕ) → unfit n p o masks row ≡ None → (j : ℕ) → j < n → fits_at p o masks j (option_at row j) ≡ true
@@ -191,10 +241,6 @@ lacks_row n p o masks row e =
 
 -- rows that are sound
 
-pub sound_none : (n row : ℕ) → sound_upto 0 n row ≡ true
-unfolding sound_upto
-sound_none n row = refl
-
 pub sound_more : (k n row : ℕ) → sound_upto k n row ≡ true → sound_upto (k + 1) n row ≡ sound_at n k (option_at row k)
 unfolding sound_upto
 sound_more k n row e =
@@ -204,11 +250,19 @@ sound_stays : (k n row : ℕ) → sound_upto k n row ≡ false → sound_upto (s
 unfolding sound_upto
 sound_stays k n row e = ap (λ b. elim b as (λ _. Bool) [ true ↦ sound_at n k (option_at row k) | false ↦ false ]) e
 
-pub sound_past : (k m n row : ℕ) → sound_upto m n row ≡ false → sound_upto (k + m) n row ≡ false
-sound_past zero m n row e = let z : 0 + m ≡ m = omega arith in ap (λ j. sound_upto j n row) z ∙ e
-sound_past (suc k) m n row e =
-    let z : suc k + m ≡ suc (k + m) = omega arith in
-    ap (λ j. sound_upto j n row) z ∙ sound_stays (k + m) n row (sound_past k m n row e)
+pub sound_in : (n row : ℕ) → list_all (λ k. sound_at n k (option_at row k)) (range_with_len 0 4) ≡ sound_row n row
+unfolding sound_upto
+sound_in n row = at (sound_at n 0 (option_at row 0)) (sound_at n 1 (option_at row 1)) (sound_at n 2 (option_at row 2)) (sound_at n 3 (option_at row 3))
+  where
+    then : Bool → Bool → Bool
+    then a b = elim a as (λ _. Bool) [ true ↦ b | false ↦ false ]
+
+    at : (a b c d : Bool) → (a && (b && (c && (d && true)))) ≡ then (then (then a b) c) d
+    at true true true true = refl
+    at true true true false = refl
+    at true true false d = refl
+    at true false c d = refl
+    at false b c d = refl
 
 -- the positions of the rule hold options
 pub sound_options : (k n row : ℕ) → sound_upto k n row ≡ true → (j : ℕ) → j < k → j < n → option_at row j < 32

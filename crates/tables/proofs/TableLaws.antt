@@ -1,39 +1,17 @@
 -- A table book without fault keeps the laws of books. Assumes nothing.
-use Rattle.std.proofs.Common.{◌≡◌, ℕ, suc, ◌+◌, ◌<◌, ◌≤◌, Bool, true, false, not, eqb, ltb, leb, List, [], ◌∷◌, length, get_or, is_some, Some, None, Option, sym, refl, ap, ◌∙◌, subst, inl, inr, arith}
+use Rattle.std.proofs.Common.{◌≡◌, ℕ, ◌+◌, ◌<◌, ◌≤◌, Bool, true, false, not, ◌&&◌, eqb, ltb, leb, List, length, get_or, is_some, sym, refl, ap, ◌∙◌, subst, inl, inr, arith}
 use Rattle.std.specs.List.{AllByRecursion as All}
 use Rattle.std.proofs.ByRecursion.{All-get_or}
 use Rattle.std.proofs.lemmas.List.{get_or_past}
-use Rattle.std.proofs.lemmas.Bool.{and_parts, and_left, and_right, false≢true, cases_Bool, cases_eq, cases_lt, lt-ltb, le-ltb, ltb-true, leb-true, eq-eqb, ne_eqb, eqb-true}
+use Rattle.std.proofs.lemmas.Bool.{and_parts, cases_eq, cases_lt, lt-ltb, ltb-true, leb-true, eq-eqb, ne_eqb, eqb-true}
 use Rattle.terms.specs.Masks.{has}
-use Rattle.terms.specs.declared.refusal.Refusal.{Refusal}
 use Rattle.terms.specs.declared.refusal.Refusal.TheVariants.{BadRows}
 use Rattle.tables.specs.declared.table.TableRule.{TableRule}
 use Rattle.books.specs.Plain.{Supported, Lawful, positions}
 use Rattle.books.specs.Questions.{fits, rules_fault}
 use Rattle.tables.specs.Table.{option_at, options_of, same_options, some_row, all_rows, run, fits_at, row_supports, sound_row, sound_run, bad_rows, table_fault, no_table, table_at, table_model}
-use Rattle.books.proofs.Conjunctions.{fails, holds}
-use Rattle.books.proofs.QuestionLaws.{no_fault, faultless, fits_parts, tied}
+use Rattle.books.proofs.QuestionLaws.{no_fault, all_pass, faultless, fits_parts, tied}
 use Rattle.tables.proofs.RowLaws.{length_options, get_or_options, same_self, same_true, some_at, which_row, all_at, fits_each, each_fits, supports_row, sound_options}
-
-pub bad_here : (rows : List ℕ) (r : ℕ) (t : TableRule) (ts : List TableRule) → sound_run rows t ≡ false → bad_rows rows r (t ∷ ts) ≡ Some (BadRows r)
-unfolding bad_rows
-bad_here rows r t ts e = ap (λ b. elim b as (λ _. Option Refusal) [ true ↦ bad_rows rows (suc r) ts | false ↦ Some (BadRows r) ]) e
-
-pub bad_later : (rows : List ℕ) (r : ℕ) (t : TableRule) (ts : List TableRule) → sound_run rows t ≡ true → bad_rows rows r (t ∷ ts) ≡ bad_rows rows (suc r) ts
-unfolding bad_rows
-bad_later rows r t ts e = ap (λ b. elim b as (λ _. Option Refusal) [ true ↦ bad_rows rows (suc r) ts | false ↦ Some (BadRows r) ]) e
-
-pub bad_none : (rows : List ℕ) (r : ℕ) → bad_rows rows r [] ≡ None
-unfolding bad_rows
-bad_none rows r = refl
-
-all_sound : (rows : List ℕ) (r : ℕ) (ts : List TableRule) → is_some (bad_rows rows r ts) ≡ false → All (λ t. sound_run rows t ≡ true) ts
-all_sound rows r [] e = tt
-all_sound rows r (t ∷ ts) e =
-    elim (cases_Bool (sound_run rows t)) [
-      | inl f ↦ (f, all_sound rows (suc r) ts (ap is_some (sym (bad_later rows r t ts f)) ∙ e))
-      | inr f ↦ absurd (false≢true (sym e ∙ ap is_some (bad_here rows r t ts f)))
-    ]
 
 -- x at p is o, and elsewhere in the mask
 pub fits_here : (p o : ℕ) (masks : List ℕ) (j x : ℕ) → j ≡ p → fits_at p o masks j x ≡ eqb x o
@@ -41,15 +19,6 @@ fits_here p o masks j x same = ap (λ b. elim b as (λ _. Bool) [ true ↦ eqb x
 
 pub fits_there : (p o : ℕ) (masks : List ℕ) (j x : ℕ) → (j ≡ p → ⊥) → fits_at p o masks j x ≡ has (get_or masks j 0) x
 fits_there p o masks j x apart = ap (λ b. elim b as (λ _. Bool) [ true ↦ eqb x o | false ↦ has (get_or masks j 0) x ]) (ne_eqb j p apart)
-
-module _ (rows : List ℕ) (rules : List TableRule) where
-  pub no_position_table : (r p o : ℕ) (masks : List ℕ) → (table_at rules r).scope.count ≤ p → false ≡ (table_model rows rules).supports r p o masks
-  unfolding table_model
-  no_position_table r p o masks h = fails (ltb p (table_at rules r).scope.count) _ (le-ltb p (table_at rules r).scope.count h)
-
-  pub no_option_table : (r p o : ℕ) (masks : List ℕ) → 32 ≤ o → false ≡ (table_model rows rules).supports r p o masks
-  unfolding table_model
-  no_option_table r p o masks h = sym (and_right (ltb p (table_at rules r).scope.count) _ (and_left (ltb o 32) _ (le-ltb o 32 h)))
 
 module _ (rows : List ℕ) (rules : List TableRule) (sound : is_some (table_fault rows rules) ≡ false) where
   both : (is_some (rules_fault (λ t. t.scope) 1 4 rules) ≡ false) × (is_some (bad_rows rows 0 rules) ≡ false)
@@ -66,7 +35,8 @@ module _ (rows : List ℕ) (rules : List TableRule) (sound : is_some (table_faul
   fit_at r h = All-get_or (λ t. fits 1 4 t.scope ≡ true) rules r no_table h fit.1
 
   sound_at_rule : (r : ℕ) → r < length rules → sound_run rows (table_at rules r) ≡ true
-  sound_at_rule r h = All-get_or (λ t. sound_run rows t ≡ true) rules r no_table h (all_sound rows 0 rules both.1)
+  unfolding bad_rows
+  sound_at_rule r h = All-get_or (λ t. sound_run rows t ≡ true) rules r no_table h (all_pass (sound_run rows) BadRows 0 rules both.1)
 
   -- a rule that is lacked has no questions and no rows
   lacked : (r : ℕ) → length rules ≤ r → table_at rules r ≡ no_table
@@ -118,7 +88,8 @@ module _ (rows : List ℕ) (rules : List TableRule) (sound : is_some (table_faul
   pub table_whole : (r p o : ℕ) (masks : List ℕ) → p < (table_at rules r).scope.count → o < 32 → some_row (row_supports (table_at rules r).scope.count p o masks) (run rows (table_at rules r)) ≡ (table_model rows rules).supports r p o masks
   unfolding table_model
   table_whole r p o masks h l =
-      holds (ltb p (table_at rules r).scope.count) _ _ (lt-ltb p (table_at rules r).scope.count h) (holds (ltb o 32) _ _ (lt-ltb o 32 l) refl)
+      let S = some_row (row_supports (table_at rules r).scope.count p o masks) (run rows (table_at rules r)) in
+      sym (ap (λ b. b && (ltb o 32 && S)) (lt-ltb p (table_at rules r).scope.count h) ∙ ap (λ b. b && S) (lt-ltb o 32 l))
 
   pub table_sound : (r p o : ℕ) (masks : List ℕ) → (table_model rows rules).supports r p o masks ≡ true → Supported (table_model rows rules) r p o masks
   unfolding table_model

@@ -5,7 +5,7 @@ use Rattle.terms.specs.declared.refusal.Refusal.{Refusal}
 use Rattle.terms.specs.declared.refusal.Refusal.TheVariants.{BadRows}
 use Rattle.tables.specs.declared.table.TableRule.{TableRule}
 use Rattle.books.specs.Plain.{Plain, no_scope}
-use Rattle.books.specs.Questions.{rules_fault, first_of}
+use Rattle.books.specs.Questions.{rules_fault, first_of, lowest}
 use Rattle.books.specs.Reasons.{owed, no_reason}
 
 -- the option of a row at a position: a byte, the lowest first
@@ -77,8 +77,7 @@ sound_run rows t = nat_le (t.first + t.count) (length rows) && all_rows (sound_r
 
 -- the lowest rule, the first being number r, whose rows are not sound
 unfoldable pub bad_rows : List ℕ → ℕ → List TableRule → Option Refusal
-bad_rows rows r [] = None
-bad_rows rows r (t ∷ ts) = elim (sound_run rows t) [ true ↦ bad_rows rows (suc r) ts | false ↦ Some (BadRows r) ]
+bad_rows rows = lowest (sound_run rows) BadRows
 
 -- the first fault of what is handed in
 unfoldable pub table_fault : List ℕ → List TableRule → Option Refusal

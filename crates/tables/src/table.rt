@@ -1,7 +1,7 @@
 // Rules that list what they allow, and the book that holds them.
-ghost use Rattle.std.specs.Prelude.{◌≡◌, ◌≤◌, false, [], length, is_some};
-ghost use Rattle.books.specs.Questions.{answered, loaded};
-ghost use Rattle.tables.specs.Table.{table_fault, sound_run, bad_rows};
+ghost use Rattle.std.specs.Prelude.{◌≡◌, false, [], is_some, IfOk};
+ghost use Rattle.terms.specs.Refusals.{told};
+ghost use Rattle.tables.specs.Table.{table_fault, sound_run};
 
 use crate::rows::sound_rows;
 use books::questions::{Ties, rules_fault};
@@ -33,38 +33,23 @@ pub struct TableBook<'a> {
 }
 
 // Whether the rule's rows are there, and each is sound.
+#[tactic(auto, using(std::proofs::lemmas::Bool::Decides::nat_tests), unfolding(crate::specs::Table::sound_run))]
 fn sound_run(rows: &[u32], rule: TableRule) -> bool
     ensures { result ≡ sound_run rows.now rule }
 {
-    let first = rule.first;
-    let count = rule.count;
-    if count > rows.len() {
+    if rule.count > rows.len() || rule.first > rows.len() - rule.count {
         return false;
     }
-    if first > rows.len() - count {
-        return false;
-    }
-    let end = first + count;
-    sound_rows(&rows[first..end], rule.scope.count)
-}
-
-// The refusal of the lowest rule whose rows are not sound.
-fn bad_rows(rows: &[u32], rules: &[TableRule]) -> Option<Refusal>
-    requires { length rules.now ≤ 64 }
-    ensures { result ≡ bad_rows rows.now 0 rules.now }
-{
-    for (rule, table) in rules.iter().enumerate() {
-        if !sound_run(rows, *table) {
-            return Some(Refusal::BadRows { rule: rule as u8 });
-        }
-    }
-    None
+    let end = rule.first + rule.count;
+    sound_rows(&rows[rule.first..end], rule.scope.count)
 }
 
 impl<'a> TableBook<'a> {
     // A book without rules.
+    #[tactic(auto, unfolding(crate::specs::Table::table_fault, crate::specs::Table::bad_rows, books::specs::Questions::rules_fault, books::specs::Questions::too_many, books::specs::Questions::misfit, books::specs::Questions::first_fault))]
     pub fn empty() -> TableBook<'a>
-        ensures { (result.rows.now ≡ []) × (result.rules.now ≡ []) }
+        ensures rows { result.rows.now ≡ [] }
+        ensures rules { result.rules.now ≡ [] }
     {
         TableBook {
             rows: &[],
@@ -72,19 +57,16 @@ impl<'a> TableBook<'a> {
         }
     }
 
-    // Takes these rules in place of those it has; refused rules change nothing.
-    pub fn load(&mut self, rows: &'a [u32], rules: &'a [TableRule]) -> Result<(), Refusal>
-        ensures answer { result ≡ answered (table_fault rows.now rules.now) tt }
-        ensures rows { self.new.rows.now ≡ loaded (table_fault rows.now rules.now) rows.now self.old.rows.now }
-        ensures rules { self.new.rules.now ≡ loaded (table_fault rows.now rules.now) rules.now self.old.rules.now }
+    // A book of these rules, unless they have a fault: the first is the refusal.
+    pub fn new(rows: &'a [u32], rules: &'a [TableRule]) -> Result<TableBook<'a>, Refusal>
+        ensures answer { told result ≡ table_fault rows.now rules.now }
+        ensures rows { IfOk result (λ b. b.rows.now ≡ rows.now) }
+        ensures rules { IfOk result (λ b. b.rules.now ≡ rules.now) }
     {
-        if let Some(refusal) = rules_fault(rules, 1, 4) {
-            return Err(refusal);
+        rules_fault(rules, 1..=4)?;
+        match rules.iter().position(|rule| !sound_run(rows, *rule)) {
+            Some(rule) => Err(Refusal::BadRows { rule: rule as u8 }),
+            None => Ok(TableBook { rows, rules }),
         }
-        if let Some(refusal) = bad_rows(rows, rules) {
-            return Err(refusal);
-        }
-        *self = TableBook { rows, rules };
-        Ok(())
     }
 }

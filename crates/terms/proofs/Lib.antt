@@ -1,3 +1,5 @@
 pub mod Bits
+pub mod FromFn
+pub mod Lowest
 pub mod MaskLaws
 pub mod ScopeLaws

@@ -1,9 +1,11 @@
 -- What masks hold, for everything above: no proof outside these two files opens a power of two. Assumes nothing.
-use Rattle.std.proofs.Common.{◌≡◌, ℕ, zero, suc, ◌+◌, ◌-◌, ◌/◌, ◌%◌, ◌^◌, ◌<◌, ◌≤◌, min, Bool, true, false, cond, not, ◌&&◌, ◌||◌, eqb, ltb, List, [], ◌∷◌, length, get_or, set, replicate, sym, refl, ap, ◌∙◌, subst, ap₂, inl, inr, le_of_suc-le-suc, not-suc-le-zero, mod-eq_of_lt, pow-suc, one-add, arith, pow_pos, pow_mono}
+use Rattle.std.proofs.Common.{◌≡◌, ℕ, zero, suc, ◌+◌, ◌-◌, ◌/◌, ◌%◌, ◌^◌, ◌<◌, ◌≤◌, min, Bool, true, false, cond, not, ◌&&◌, ◌||◌, eqb, ltb, List, [], ◌∷◌, length, get_or, zip, sym, refl, ap, ◌∙◌, subst, ap₂, inl, inr, mod-eq_of_lt, pow-suc, one-add, arith, pow_pos, pow_mono}
 use lib.Bits.{bit_and, bit_or, bit_xor, or_lt, xor_lt, and_le_l, and_zero_r, and_zero_l, xor_zero_r}
 use lib.Dec.{leb-suc-suc}
 use lib.Pow.{pow-lt, mod-pow-add}
 use lib.Count.{ones, ones-le, ones_cat, ones-ones}
+use Rattle.std.specs.List.{list_all}
+use Rattle.std.proofs.Math.Bool.{and-true}
 use Rattle.std.proofs.lemmas.Nat.{mod_below}
 use Rattle.std.proofs.lemmas.Bool.{eqb-true, eq-eqb, lt-ltb, le-ltb, cond-true, cases_lt, and_parts, and_from, or_left}
 use Rattle.std.proofs.lemmas.Bool.Decides.{nat_tests}
@@ -175,27 +177,6 @@ get_or-declared_each zero (s ∷ ss) (suc k) = get_or-declared_each zero ss k �
 get_or-declared_each (suc n) (s ∷ ss) zero = ap (λ b. cond b (declared s) 0) (sym (lt-ltb 0 (suc n) (omega arith)))
 get_or-declared_each (suc n) (s ∷ ss) (suc k) = get_or-declared_each n ss k ∙ ap (λ b. cond b (declared (get_or ss k 0)) 0) (sym (leb-suc-suc (suc k) n))
 
-pub declared_none : (ss : List ℕ) → declared_each 0 ss ≡ replicate (length ss) 0
-unfolding declared_each
-declared_none [] = refl
-declared_none (s ∷ ss) = ap (λ ms. 0 ∷ ms) (declared_none ss)
-
--- one question more
-pub declared_more : (q : ℕ) (ss : List ℕ) → q < length ss → set (declared_each q ss) q (declared (get_or ss q 0)) ≡ declared_each (suc q) ss
-unfolding declared_each
-declared_more q [] h = absurd (not-suc-le-zero h)
-declared_more zero (s ∷ ss) h = refl
-declared_more (suc q) (s ∷ ss) h = ap (λ ms. declared s ∷ ms) (declared_more q ss (le_of_suc-le-suc h))
-
--- a count past the last size declares no more
-pub declared_past : (ss : List ℕ) (m n : ℕ) → min (length ss) n ≤ m → m ≤ n → declared_each m ss ≡ declared_each n ss
-unfolding declared_each
-declared_past [] m n h l = refl
-declared_past (s ∷ ss) zero zero h l = refl
-declared_past (s ∷ ss) zero (suc n) h l = absurd (omega arith)
-declared_past (s ∷ ss) (suc m) zero h l = absurd (omega arith)
-declared_past (s ∷ ss) (suc m) (suc n) h l = ap (λ ms. declared s ∷ ms) (declared_past ss m n (omega arith) (omega arith))
-
 -- lists of masks
 
 pub less_none : (m : ℕ) → less m 0 ≡ m
@@ -248,3 +229,10 @@ has-with_rule rs r p h = ap (λ x. has x p) (cond-true _ _ _ (lt-ltb r 64 h)) �
 -- a set of 64 bits holds only rules
 pub has_past_rules : (rs r : ℕ) → rs < 2 ^ 64 → 64 ≤ r → has rs r ≡ false
 has_past_rules rs r = has_high 64 rs r
+
+-- the same, pair by pair
+pub within_each_zip : (ms ns : List ℕ) → length ms ≡ 4 → length ns ≡ 4 → list_all (λ p. within p.0 p.1) (zip ms ns) ≡ within_each ms ns
+unfolding within_each
+within_each_zip (a ∷ b ∷ c ∷ d ∷ []) (e ∷ f ∷ g ∷ h ∷ []) l m =
+    ap (λ t. within a e && (within b f && (within c g && t))) (and-true (within d h))
+within_each_zip _ _ l m = absurd (omega arith)

@@ -1,3 +1,5 @@
+pub mod Denials
+pub mod Kinds
 pub mod Masks
 pub mod Refusals
 pub mod Scopes

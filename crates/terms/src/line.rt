@@ -1,17 +1,32 @@
 // A line of a log: it crosses one option, its head.
+ghost use Rattle.std.specs.Prelude.{◌≡◌};
+ghost use Rattle.terms.specs.Kinds.{number_of};
 
-// The kinds of a line. A sheet's own log has the first two only.
-pub const PICK: u8 = 1;
-
-pub const RULE: u8 = 2;
-
-pub const TRY: u8 = 3;
-
-pub const SHUT: u8 = 4;
-
-// The kind is a plain number since a line may come from anywhere, and another kind is told as a refusal.
-// Fields that a kind does not use are 0; position j of the reason speaks of the question at position j of the rule.
+// What a line is, told by its number. A sheet's own log has the first two only.
 #[derive(Clone, Copy)]
+pub enum Kind {
+    Pick,
+    Rule,
+    Try,
+    Shut,
+}
+
+impl From<Kind> for u8 {
+    ghost from_gives = { λ kind number. number ≡ number_of kind };
+
+    fn from(kind: Kind) -> u8 {
+        match kind {
+            Kind::Pick => 1,
+            Kind::Rule => 2,
+            Kind::Try => 3,
+            Kind::Shut => 4,
+        }
+    }
+}
+
+// The kind stays a plain number here, since a line may come from anywhere, and another kind is told as a refusal.
+// Fields that a kind does not use are 0; position j of the reason speaks of the question at position j of the rule.
+#[derive(Clone, Copy, Default)]
 pub struct Line {
     pub kind: u8,
     pub rule: u8,

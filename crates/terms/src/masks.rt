@@ -2,6 +2,8 @@
 ghost use Rattle.std.specs.Prelude.{◌≡◌};
 ghost use Rattle.terms.specs.Masks.{has, with, without, less, within, declared, declared_each, held, less_each, within_each, with_rule};
 
+use std::array;
+
 // Whether the mask holds the option; no mask holds a number above 31.
 pub fn has(mask: u32, option: u8) -> bool
     ensures { result ≡ has mask option }
@@ -63,35 +65,28 @@ pub fn held(mask: u32) -> u32
 pub fn declared_each(count: u8, sizes: [u8; 16]) -> [u32; 16]
     ensures { result ≡ declared_each count sizes }
 {
-    let mut masks = [0; 16];
-    for q in 0..16usize {
-        if q < count as usize {
-            masks[q] = declared(sizes[q]);
-        }
-    }
-    masks
+    array::from_fn(|q| if q < usize::from(count) {
+        declared(sizes[q])
+    } else {
+        0
+    })
 }
 
 // What the masks of a sheet hold and the others do not, question by question.
 pub fn less_each(masks: [u32; 16], others: [u32; 16]) -> [u32; 16]
     ensures { result ≡ less_each masks others }
 {
-    let mut rest = masks;
-    for q in 0..16usize {
-        rest[q] = less(masks[q], others[q]);
-    }
-    rest
+    array::from_fn(|q| less(masks[q], others[q]))
 }
 
 // Whether the four masks of a rule lie within four others.
 pub fn within_each(masks: [u32; 4], others: [u32; 4]) -> bool
     ensures { result ≡ within_each masks others }
 {
-    let first = within(masks[0], others[0]);
-    let second = within(masks[1], others[1]);
-    let third = within(masks[2], others[2]);
-    let fourth = within(masks[3], others[3]);
-    first & (second & (third & fourth))
+    masks
+        .iter()
+        .zip(others.iter())
+        .all(|(mask, other)| within(*mask, *other))
 }
 
 // Whether a set of rules holds the rule: bit r is rule r.

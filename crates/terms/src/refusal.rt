@@ -1,8 +1,12 @@
 // What a denied call says: a case for each of the 29 refusals, with the place where it has one.
-ghost use Rattle.std.specs.Prelude.{◌≡◌};
+ghost use Rattle.std.specs.Prelude.{◌≡◌, Some};
+ghost use Rattle.terms.specs.Denials.{denied_text, refusal_text};
 ghost use Rattle.terms.specs.Refusals.{number_of, place_of};
 
-#[derive(Clone, Copy)]
+use std::error::Error;
+use std::fmt;
+
+#[derive(Clone, Copy, Debug)]
 pub enum Refusal {
     // 1: no question, or more than 16
     QuestionCount,
@@ -107,27 +111,94 @@ impl Refusal {
         ensures { result ≡ place_of self.now }
     {
         match self {
-            Refusal::SizeOutOfRange { question } => *question as usize,
-            Refusal::BadQuestions { rule } => *rule as usize,
-            Refusal::BadRows { rule } => *rule as usize,
-            Refusal::DistanceOutOfRange { rule } => *rule as usize,
-            Refusal::NoSuchQuestion { question } => *question as usize,
-            Refusal::NoSuchOption { question } => *question as usize,
-            Refusal::NoSuchRule { rule } => *rule as usize,
-            Refusal::RuleOffSheet { rule } => *rule as usize,
-            Refusal::PlacementStands { rule } => *rule as usize,
-            Refusal::PickStands { question } => *question as usize,
-            Refusal::OptionStands { question } => *question as usize,
+            Refusal::SizeOutOfRange { question }
+            | Refusal::NoSuchQuestion { question }
+            | Refusal::NoSuchOption { question }
+            | Refusal::PickStands { question }
+            | Refusal::OptionStands { question } => usize::from(*question),
+            Refusal::BadQuestions { rule }
+            | Refusal::BadRows { rule }
+            | Refusal::DistanceOutOfRange { rule }
+            | Refusal::NoSuchRule { rule }
+            | Refusal::RuleOffSheet { rule }
+            | Refusal::PlacementStands { rule } => usize::from(*rule),
             Refusal::HeaderOutOfRange { byte } => *byte,
-            Refusal::MalformedLine { line } => *line,
-            Refusal::PickLineUnfounded { line } => *line,
-            Refusal::RuleLineUnfounded { line } => *line,
-            Refusal::ReasonUnfounded { line } => *line,
-            Refusal::OptionSupported { line } => *line,
-            Refusal::CrossedAlready { line } => *line,
-            Refusal::TooManyTries { line } => *line,
-            Refusal::ShutUnfounded { line } => *line,
-            _ => 0,
+            Refusal::MalformedLine { line }
+            | Refusal::PickLineUnfounded { line }
+            | Refusal::RuleLineUnfounded { line }
+            | Refusal::ReasonUnfounded { line }
+            | Refusal::OptionSupported { line }
+            | Refusal::CrossedAlready { line }
+            | Refusal::TooManyTries { line }
+            | Refusal::ShutUnfounded { line } => *line,
+            Refusal::QuestionCount
+            | Refusal::TooManyRules
+            | Refusal::TooFewLines
+            | Refusal::FileTooLong
+            | Refusal::TooFewBytes
+            | Refusal::NotALogFile
+            | Refusal::LineCountWrong
+            | Refusal::OtherDocket
+            | Refusal::TryLeftOpen => 0,
+        }
+    }
+
+    // What it says.
+    fn text(&self) -> &'static str
+        ensures { result.now ≡ refusal_text self.now }
+    {
+        match self {
+            Refusal::QuestionCount => "there is no question, or there are more than 16",
+            Refusal::SizeOutOfRange { .. } => "a size is 0 or above 32",
+            Refusal::TooManyRules => "the book would have more than 64 rules",
+            Refusal::BadQuestions { .. } =>
+                "a rule has too few questions or too many, one above 15, or one twice",
+            Refusal::BadRows { .. } =>
+                "a table's row has an option above 31 or a byte past its last question, or is not in the list",
+            Refusal::DistanceOutOfRange { .. } => "a gap's distance is not from -31 to 31",
+            Refusal::NoSuchQuestion { .. } => "the question is not on the sheet",
+            Refusal::NoSuchOption { .. } => "the option is not below its question's size",
+            Refusal::NoSuchRule { .. } => "the rule is not in the book",
+            Refusal::RuleOffSheet { .. } => "the rule has a question that is not on the sheet",
+            Refusal::PlacementStands { .. } =>
+                "the rule is placed already, or is not there to be lifted",
+            Refusal::PickStands { .. } =>
+                "the question has a pick already, or has none to take back",
+            Refusal::OptionStands { .. } => "the option stands",
+            Refusal::TooFewLines => "more lines are needed than were handed in",
+            Refusal::FileTooLong => "a log file holds at most 2000 lines",
+            Refusal::TooFewBytes => "the bytes to write into are too few",
+            Refusal::NotALogFile => "the file is too short, or has another mark or version",
+            Refusal::HeaderOutOfRange { .. } => "a field of the header is outside its range",
+            Refusal::LineCountWrong => "the line count is above 2000 or disagrees with the length",
+            Refusal::OtherDocket => "the file is for another docket",
+            Refusal::MalformedLine { .. } =>
+                "the line has another kind, a question or option off the docket, or an unused field that is not 0",
+            Refusal::PickLineUnfounded { .. } =>
+                "the question has no pick, or is picked as that option",
+            Refusal::RuleLineUnfounded { .. } => "the rule is not placed or lacks that question",
+            Refusal::ReasonUnfounded { .. } =>
+                "the reason names an option not crossed, its own position, or one past the last",
+            Refusal::OptionSupported { .. } =>
+                "the option has support under the declared options less the reason",
+            Refusal::CrossedAlready { .. } => "the option is crossed already",
+            Refusal::TooManyTries { .. } => "a try opens while 16 are open",
+            Refusal::ShutUnfounded { .. } =>
+                "no try is open, another one is the innermost, or no question is empty",
+            Refusal::TryLeftOpen => "a try is open at the end",
         }
     }
 }
+
+impl fmt::Display for Refusal {
+    ghost output = { λ e. Some (denied_text e) };
+
+    fn fmt<W: fmt::Write>(&self, f: &mut fmt::Formatter<W>) -> fmt::Result {
+        let number = self.number();
+        let place = self.place();
+        let text = self.text();
+        write!(f, "refused {number} at {place}: {text}")
+    }
+}
+
+impl Error for Refusal {}

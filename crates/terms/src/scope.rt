@@ -1,12 +1,23 @@
 // The questions that a rule ties, in position order.
 ghost use Rattle.std.specs.Prelude.{◌≡◌};
-ghost use Rattle.terms.specs.Scopes.{mask_at, masks_at};
+ghost use Rattle.terms.specs.Scopes.{mask_at, masks_at, questions_of};
+
+use std::array;
 
 // A count and four numbers, of which the first `count` are the questions.
 #[derive(Clone, Copy)]
 pub struct Scope {
     pub count: u8,
     pub questions: [u8; 4],
+}
+
+impl Scope {
+    // The questions alone.
+    pub fn tied(&self) -> &[u8]
+        ensures { result.now ≡ questions_of self.now }
+    {
+        &self.questions[..usize::from(self.count.min(4))]
+    }
 }
 
 // The questions of a rule that is not there.
@@ -19,21 +30,15 @@ pub const NO_SCOPE: Scope = Scope {
 pub fn mask_at(masks: [u32; 16], scope: Scope, position: usize) -> u32
     ensures { result ≡ mask_at masks scope position }
 {
-    if position >= 4 || position >= scope.count as usize {
-        return 0;
+    match scope.tied().get(position) {
+        Some(question) => masks.get(usize::from(*question)).copied().unwrap_or(0),
+        None => 0,
     }
-    let question = scope.questions[position] as usize;
-    if question < 16 { masks[question] } else { 0 }
 }
 
 // The masks of a rule's questions, position by position.
 pub fn masks_at(masks: [u32; 16], scope: Scope) -> [u32; 4]
     ensures { result ≡ masks_at masks scope }
 {
-    [
-        mask_at(masks, scope, 0),
-        mask_at(masks, scope, 1),
-        mask_at(masks, scope, 2),
-        mask_at(masks, scope, 3),
-    ]
+    array::from_fn(|position| mask_at(masks, scope, position))
 }

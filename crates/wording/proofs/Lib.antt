@@ -1,4 +1,2 @@
-mod Gathers
-mod Numerals
 mod Samples
 mod Unnamed

@@ -1,8 +1,8 @@
 -- Numbers as they are written in a sitting. Assumes nothing.
-use Rattle.std.specs.Prelude.{ℕ, ◌+◌, ◌-◌, ◌*◌, min, Bool, cond, ◌&&◌, List, [], ◌∷◌, length, ℤ, pos, neg_ℤ, Some, None, Ok, Err, Option, Result, ◌==◌, nat_lt, slice_set}
+use Rattle.std.specs.Prelude.{◌≡◌, ◌≢◌, ℕ, ◌+◌, ◌-◌, ◌*◌, Bool, cond, ◌&&◌, List, [], ◌∷◌, ◌++◌, length, ℤ, pos, neg_ℤ, Some, None, Ok, Err, Option, Result, ◌==◌, nat_lt, slice_index}
 use Rattle.std.specs.Option.{option_map}
+use Rattle.std.specs.Result.{result_ok}
 use Rattle.std.specs.Str.{all_ascii_digits}
-use Rattle.wording.specs.declared.numbers.Numbers.{Numbers}
 
 -- the number that decimal digits write, after the number so far
 unfoldable pub read_on : ℕ → List ℕ → ℕ
@@ -25,17 +25,15 @@ unfoldable pub distance_of : List ℕ → Option ℤ
 distance_of [] = None
 distance_of (b ∷ bs) = cond (b == 45) (option_map (λ n. neg_ℤ (pos n)) (number_below 32769 bs)) (option_map pos (number_below 32768 (b ∷ bs)))
 
--- one more, of which only the first four are kept
-unfoldable pub and_number : Numbers → ℕ → Numbers
-and_number ns n = record { count = min (ns.count + 1) 255; first = cond (nat_lt ns.count 4) (slice_set ns.first ns.count n) ns.first }
+-- the number in a text is what is read of it, but none where a plus (43) stands in front
+pub record ReadsAs {X E : Type 0} (number_in : List ℕ → Option X) (gives : List ℕ → Result X E → Type 0) : Type 0 where
+  pub plussed : (bs : List ℕ) → slice_index bs 0 ≡ 43 → number_in bs ≡ None
+  pub plain : (bs : List ℕ) (r : Result X E) → slice_index bs 0 ≢ 43 → gives bs r → result_ok r ≡ number_in bs
 
-unfoldable pub no_numbers : Numbers
-no_numbers = record { count = 0; first = 0 ∷ 0 ∷ 0 ∷ 0 ∷ [] }
-
--- the numbers of the words, after those so far, or the first word that is no number
-unfoldable pub numbers_after : Numbers → List (List ℕ) → Result Numbers (List ℕ)
+-- the numbers of the words, after those so far, or the first word that writes none
+unfoldable pub numbers_after : List ℕ → List (List ℕ) → Result (List ℕ) (List ℕ)
 numbers_after ns [] = Ok ns
-numbers_after ns (w ∷ ws) = elim (byte_of w) [ None ↦ Err w | Some n ↦ numbers_after (and_number ns n) ws ]
+numbers_after ns (w ∷ ws) = elim (byte_of w) [ None ↦ Err w | Some n ↦ numbers_after (ns ++ n ∷ []) ws ]
 
 -- what a result of the code holds, by what its value and its error hold
 abbrev pub both : {X Y E F : Type 0} → (X → Y) → (E → F) → Result X E → Result Y F

@@ -26,18 +26,6 @@ every_verb = Table ∷ Gap ∷ Differ ∷ Open ∷ Place ∷ Pick ∷ Settle ∷
 unfoldable pub verb_of : List ℕ → Option Verb
 verb_of w = verb_among every_verb w
 
--- how many numbers follow it, where that is all
-abbrev pub arity_of : Verb → Option ℕ
-arity_of Table = None
-arity_of Gap = None
-arity_of Differ = Some 2
-arity_of Open = None
-arity_of Place = Some 1
-arity_of Pick = Some 2
-arity_of Settle = Some 0
-arity_of Standing = Some 1
-arity_of Overview = Some 0
-
 abbrev pub form_of : Verb → List ℕ
 form_of Table = codes "table QUESTION.. : OPTION.., OPTION.."
 form_of Gap = codes "gap QUESTION QUESTION DISTANCE"

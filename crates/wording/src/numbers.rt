@@ -1,69 +1,57 @@
 // Numbers as they are written in a sitting.
-ghost use Rattle.std.specs.Prelude.{◌≡◌};
-ghost use Rattle.wording.specs.Figures.{byte_of, distance_of, and_number, no_numbers, numbers_after, both};
+ghost use Rattle.std.specs.Prelude.{◌≡◌, ℕ, List, [], Option, IfOk};
 ghost use Rattle.lines.specs.Marks.{texts};
+ghost use Rattle.wording.specs.Figures.{ReadsAs, both, byte_of, distance_of, numbers_after};
+ghost use Rattle.wording.specs.Numerals.{byte_reads, distance_reads};
 
-// The number that the word writes in decimal digits, if it is at most 255.
-pub fn byte(word: &str) -> Option<u8>
-    ensures { result ≡ byte_of word.now }
+use std::alloc::{AllocError, Global};
+use std::num::ParseIntError;
+use std::str::FromStr;
+
+// A number that a word may write.
+pub trait Number: FromStr<Err = ParseIntError> {
+    // The number that a text writes, if it writes one.
+    ghost number_in: { List ℕ → Option Self };
+
+    // It is what `parse` reads, which also takes a plus.
+    ghost reads: { ReadsAs number_in Self.from_str_gives };
+}
+
+// In decimal digits, at most 255.
+impl Number for u8 {
+    ghost number_in = { byte_of };
+
+    ghost reads = { byte_reads };
+}
+
+// The same with a minus in front of it or without, if it fits 16 bits.
+impl Number for i16 {
+    ghost number_in = { distance_of };
+
+    ghost reads = { distance_reads };
+}
+
+// The number that the word writes: a plus in front of it writes none.
+pub fn written<T: Number>(word: &str) -> Option<T>
+    ensures { result ≡ T.number_in word.now }
 {
     if word.starts_with('+') {
         return None;
     }
-    word.parse::<u8>().ok()
+    word.parse().ok()
 }
 
-// The same with a minus in front of it or without, if it fits 16 bits.
-pub fn distance(word: &str) -> Option<i16>
-    ensures { result ≡ distance_of word.now }
+// The numbers from 0 to 255 that the words write, or the first word that writes none.
+#[tactic(auto, unfolding(crate::specs::Figures::numbers_after))]
+pub fn numbers<'a>(heap: Global, words: &[&'a str]) -> Result<Result<Vec<u8>, &'a str>, AllocError>
+    ensures { IfOk result (λ read. both (λ v. v.items) (λ w. w.now) read ≡ numbers_after [] (texts words.now)) }
 {
-    if word.starts_with('+') {
-        None
-    } else {
-        word.parse::<i16>().ok()
+    let mut numbers = Vec::new(heap);
+    for word in words {
+        let Some(number) = written(word) else {
+            return Ok(Err(*word));
+        };
+        numbers.push(number)?;
     }
-}
-
-// Any number of bytes, of which the first four are kept: a scope or a row, however long it was written.
-#[derive(Clone, Copy)]
-pub struct Numbers {
-    // Stays at 255 past that.
-    pub count: u8,
-    pub first: [u8; 4],
-}
-
-impl Numbers {
-    pub const NONE: Numbers = Numbers {
-        count: 0,
-        first: [0; 4],
-    };
-
-    // One number more.
-    pub fn and(self, number: u8) -> Numbers
-        ensures { result ≡ and_number self number }
-    {
-        let mut first = self.first;
-        if self.count < 4 {
-            first[self.count as usize] = number;
-        }
-        Numbers {
-            count: self.count.saturating_add(1),
-            first,
-        }
-    }
-
-    // The numbers that the words write, or the first word that writes none.
-    pub fn read<'a>(words: &[&'a str]) -> Result<Numbers, &'a str>
-        ensures { both (λ ns. ns) (λ w. w.now) result ≡ numbers_after no_numbers (texts words.now) }
-    {
-        let mut numbers = Numbers::NONE;
-        for word in words {
-            let Some(number) = byte(word) else {
-                return Err(*word);
-            };
-            let more = numbers.and(number);
-            numbers = more;
-        }
-        Ok(numbers)
-    }
+    Ok(Ok(numbers))
 }

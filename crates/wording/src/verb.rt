@@ -1,8 +1,11 @@
 // The words that commands begin with.
 ghost use Rattle.std.specs.Prelude.{◌≡◌};
-ghost use Rattle.wording.specs.Names.{arity_of, form_of, verb_names, verb_of};
+ghost use Rattle.std.specs.Result.{result_ok};
+ghost use Rattle.wording.specs.Names.{form_of, verb_names, verb_of};
 
-// Named in the text of a fault where a line begins with another word.
+use std::str::FromStr;
+
+// Named in the text of a fault where a line begins with another word. No const: it would have no clause that pins it.
 pub fn verbs() -> &'static str
     ensures { result.now ≡ verb_names }
 {
@@ -22,37 +25,34 @@ pub enum Verb {
     Overview,
 }
 
-impl Verb {
-    // The command that the word names, if it names one.
-    pub fn named(word: &str) -> Option<Verb>
-        ensures { result ≡ verb_of word.now }
-    {
+// A word that names no verb.
+#[derive(Clone, Copy)]
+pub struct UnknownVerb;
+
+// The command that the word names.
+impl FromStr for Verb {
+    type Err = UnknownVerb;
+
+    ghost from_str_gives = { λ word r. result_ok r ≡ verb_of word };
+
+    #[tactic(auto, unfolding(crate::specs::Names::verb_of, crate::specs::Names::verb_among))]
+    fn from_str(word: &str) -> Result<Verb, UnknownVerb> {
         match word {
-            "table" => Some(Verb::Table),
-            "gap" => Some(Verb::Gap),
-            "differ" => Some(Verb::Differ),
-            "open" => Some(Verb::Open),
-            "place" => Some(Verb::Place),
-            "pick" => Some(Verb::Pick),
-            "settle" => Some(Verb::Settle),
-            "standing" => Some(Verb::Standing),
-            "overview" => Some(Verb::Overview),
-            _ => None,
+            "table" => Ok(Verb::Table),
+            "gap" => Ok(Verb::Gap),
+            "differ" => Ok(Verb::Differ),
+            "open" => Ok(Verb::Open),
+            "place" => Ok(Verb::Place),
+            "pick" => Ok(Verb::Pick),
+            "settle" => Ok(Verb::Settle),
+            "standing" => Ok(Verb::Standing),
+            "overview" => Ok(Verb::Overview),
+            _ => Err(UnknownVerb),
         }
     }
+}
 
-    // How many numbers follow the word, where that is all that follows it.
-    pub fn arity(&self) -> Option<u8>
-        ensures { result ≡ arity_of self.now }
-    {
-        match self {
-            Verb::Table | Verb::Gap | Verb::Open => None,
-            Verb::Settle | Verb::Overview => Some(0),
-            Verb::Place | Verb::Standing => Some(1),
-            Verb::Differ | Verb::Pick => Some(2),
-        }
-    }
-
+impl Verb {
     // How its line is written.
     pub fn form(&self) -> &'static str
         ensures { result.now ≡ form_of self.now }

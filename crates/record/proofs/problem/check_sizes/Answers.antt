@@ -1,59 +1,48 @@
-use Rattle.std.proofs.Common.{◌≡◌, ℕ, ◌+◌, ◌<◌, ◌≤◌, Bool, true, false, ◌||◌, eqb, ltb, List, length, get_or, drop, sym, refl, ap, ◌∙◌, add-one}
-use Rattle.std.proofs.lemmas.List.{drop_more, drop_all}
-use Rattle.std.proofs.lemmas.Bool.{or_left, or_right, or_from, eq-eqb, ne_eqb, lt-ltb, le-ltb}
+use Rattle.std.proofs.Common.{◌≡◌, ℕ, suc, ◌≤◌, Bool, true, false, cond, ◌||◌, eqb, ltb, List, length, Some, Option, sym, refl, ap, ◌∙◌, rules, tests}
+use Rattle.std.specs.List.{position}
+use Rattle.std.specs.Option.{option_map}
+use Rattle.std.proofs.lemmas.Bool.{or_left, or_right, or_from, lt-ltb, le-ltb}
+use Rattle.std.proofs.lemmas.Iterator.{YieldsList-from_slice}
+use Rattle.std.proofs.lemmas.Iterator.Search.{position_from_yields_List}
+use Rattle.terms.specs.declared.refusal.Refusal.{Refusal}
 use Rattle.terms.specs.declared.refusal.Refusal.TheVariants.{QuestionCount, SizeOutOfRange}
+use Rattle.terms.proofs.Lowest.{lowest_of}
 use Rattle.record.specs.Told.{refuse}
 use Rattle.record.specs.Calls.{open_fault, size_fault}
 use Rattle.record.proofs.problem.check_sizes.Goals as goal
-use Rattle.record.proofs.problem.check_sizes.Goals.{then-sizes-eq0-via-then-sizes-eq0, then-sizes-eq0-via-else-sizes-eq0+then-sizes-gt16, then-sizes-q-eq0-via-then-sizes-q-eq0, then-sizes-q-eq0-via-else-sizes-q-eq0+then-sizes-q-gt32}
+use Rattle.record.proofs.problem.check_sizes.Goals.{then-is_empty-via-then-is_empty, then-is_empty-via-else-is_empty+then-sizes-gt16}
 
-bad : List ℕ → ℕ → Bool
-bad xs q = eqb (get_or xs q 0) 0 || ltb 32 (get_or xs q 0)
+bad : ℕ → Bool
+bad n = eqb n 0 || ltb 32 n
 
--- one size of what is left is tested
-next : (xs : List ℕ) (q : ℕ) → q < length xs → size_fault q (drop q xs) ≡ refuse (bad xs q) (SizeOutOfRange q) (size_fault (q + 1) (drop (q + 1) xs))
-unfolding size_fault bad
-next xs q h = ap (size_fault q) (drop_more xs q 0 h) ∙ ap (λ n. refuse (bad xs q) (SizeOutOfRange q) (size_fault n (drop (q + 1) xs))) (sym (add-one q))
+refuse_is : (b : Bool) (e : Refusal) (rest : Option Refusal) → refuse b e rest ≡ cond b (Some e) rest
+refuse_is true e rest = refl
+refuse_is false e rest = refl
 
--- how many there are is in order
-counted : (xs : List ℕ) → (length xs ≡ 0 → ⊥) → length xs ≤ 16 → open_fault xs ≡ size_fault 0 xs
+-- how many there are is in order, so the first size that is not decides
+counted : (xs : List ℕ) → eqb (length xs) 0 ≡ false → length xs ≤ 16 → open_fault xs ≡ option_map SizeOutOfRange (position bad xs)
+unfolding open_fault size_fault bad
+counted xs some few =
+    ap (λ b. refuse b QuestionCount (size_fault 0 xs)) (or_from _ _ some (le-ltb 16 (length xs) few))
+    ∙ lowest_of bad SizeOutOfRange size_fault (λ q. refl) (λ q x ns. refuse_is (bad x) (SizeOutOfRange q) (size_fault (suc q) ns)) xs
+
+pub returns-then-is_empty : goal.returns-then-is_empty
 unfolding open_fault
-counted xs some few = ap (λ b. refuse b QuestionCount (size_fault 0 xs)) (or_from _ _ (ne_eqb _ _ some) (le-ltb 16 (length xs) few))
-
-pub returns-then-sizes-eq0 : goal.returns-then-sizes-eq0
-unfolding open_fault
-returns-then-sizes-eq0 c =
+returns-then-is_empty c =
     let xs = c.args.sizes.now in
-    elim c.then-sizes-eq0.branch [
-      | then-sizes-eq0-via-then-sizes-eq0 w ↦ ap (λ b. refuse b QuestionCount (size_fault 0 xs)) (sym (or_left _ _ (eq-eqb _ _ w.if-sizes-eq0.true)))
-      | then-sizes-eq0-via-else-sizes-eq0+then-sizes-gt16 w ↦ ap (λ b. refuse b QuestionCount (size_fault 0 xs)) (sym (or_right (eqb (length xs) 0) _ (lt-ltb _ _ w.if-sizes-gt16.true)))
+    elim c.then-is_empty.branch [
+      | then-is_empty-via-then-is_empty w ↦ ap (λ b. refuse b QuestionCount (size_fault 0 xs)) (sym (or_left _ _ (sym c.is_empty.ensures ∙ w.if-is_empty.true)))
+      | then-is_empty-via-else-is_empty+then-sizes-gt16 w ↦ ap (λ b. refuse b QuestionCount (size_fault 0 xs)) (sym (or_right (eqb (length xs) 0) _ (lt-ltb _ _ w.if-sizes-gt16.true)))
     ]
 
-pub loop-q-init : goal.loop-q-init
-loop-q-init c = refl
-
-pub returns-then-sizes-q-eq0 : goal.returns-then-sizes-q-eq0
+pub returns-in-Some : goal.returns-in-Some
 unfolding bad
-returns-then-sizes-q-eq0 c =
-    let xs = c.args.sizes.now in
-    let q = c.loop-q.q in
-    let here : bad xs q ≡ true = elim c.then-sizes-q-eq0.branch [
-      | then-sizes-q-eq0-via-then-sizes-q-eq0 w ↦ or_left _ _ (eq-eqb _ _ w.if-sizes-q-eq0.true)
-      | then-sizes-q-eq0-via-else-sizes-q-eq0+then-sizes-q-gt32 w ↦ or_right (eqb (get_or xs q 0) 0) _ (lt-ltb _ _ w.if-sizes-q-gt32.true)
-    ] in
-    sym (counted xs c.if-sizes-eq0.false c.if-sizes-gt16.false ∙ sym c.loop-q.invariant ∙ next xs q c.loop-q-test.true
-    ∙ ap (λ b. refuse b (SizeOutOfRange q) (size_fault (q + 1) (drop (q + 1) xs))) here)
+returns-in-Some c =
+    ap (option_map SizeOutOfRange) (sym c.in-Some.is ∙ position_from_yields_List bad c.position.new.self _ _ c.position.ensures.ran (YieldsList-from_slice c.args.sizes.now c.iter.ensures.rest) (λ x b q k. search (rules, tests)))
+    ∙ sym (counted c.args.sizes.now (sym c.is_empty.ensures ∙ c.if-is_empty.false) c.if-sizes-gt16.false)
 
-pub loop-q-preserved : goal.loop-q-preserved
+pub returns-in-None : goal.returns-in-None
 unfolding bad
-loop-q-preserved c =
-    let xs = c.args.sizes.now in
-    let q = c.loop-q.q in
-    let here : bad xs q ≡ false = or_from _ _ (ne_eqb _ _ c.if-sizes-q-eq0.false) (le-ltb 32 (get_or xs q 0) c.if-sizes-q-gt32.false) in
-    sym (next xs q c.loop-q-test.true ∙ ap (λ b. refuse b (SizeOutOfRange q) (size_fault (q + 1) (drop (q + 1) xs))) here) ∙ c.loop-q.invariant
-
-pub returns : goal.returns
-unfolding size_fault
-returns c =
-    let xs = c.args.sizes.now in
-    sym (counted xs c.if-sizes-eq0.false c.if-sizes-gt16.false ∙ sym c.loop-q.invariant ∙ ap (size_fault c.loop-q.q) (drop_all c.loop-q.q xs c.loop-q-test.false))
+returns-in-None c =
+    ap (option_map SizeOutOfRange) (sym c.in-None.is ∙ position_from_yields_List bad c.position.new.self _ _ c.position.ensures.ran (YieldsList-from_slice c.args.sizes.now c.iter.ensures.rest) (λ x b q k. search (rules, tests)))
+    ∙ sym (counted c.args.sizes.now (sym c.is_empty.ensures ∙ c.if-is_empty.false) c.if-sizes-gt16.false)

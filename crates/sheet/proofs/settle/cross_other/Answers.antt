@@ -1,9 +1,10 @@
-use Rattle.std.proofs.Common.{◌≡◌, true, cond, length, get_or, sym, ap, ◌∙◌, arith, rules}
+use Rattle.std.proofs.Common.{◌≡◌, true, cond, length, get_or, [], ◌∷◌, sym, ap, ◌∙◌, ap₂, arith, rules}
 use Rattle.std.proofs.lemmas.List.{get_or_past}
 use Rattle.terms.specs.Masks.{has}
 use Rattle.terms.proofs.MaskLaws.{has_none}
+use Rattle.terms.specs.declared.line.Line.{Line}
 use Rattle.record.specs.View.{view}
-use Rattle.record.specs.Calls.{standing_each, pushed}
+use Rattle.record.specs.Calls.{standing_each, pushed, admissible}
 use Rattle.record.proofs.RecordLaws.{sound_of}
 use Rattle.sheet.specs.Settle.{pick_line}
 use Rattle.sheet.proofs.Lines.{pick_admissible}
@@ -32,6 +33,8 @@ returns c =
     let q = c.args.question in
     let o = c.args.option in
     let e : has (get_or (standing_each s) q 0) o ≡ true = ap (λ ms. has (get_or ms q 0) o) (sym c.standing-standing.ensures) ∙ sym c.if-not-has.ensures in
+    let line : ◌≡◌ {A = Line} (record { kind = c.into.result; rule = 0; question = q; option = o; reason = 0 ∷ 0 ∷ 0 ∷ 0 ∷ [] }) (pick_line q o) =
+    λ i. record { kind = c.into.ensures i; rule = 0; question = q; option = o; reason = 0 ∷ 0 ∷ 0 ∷ 0 ∷ [] } in
     c.cross.ensures.after
-    ∙ ap (λ t. cond t (pushed s (pick_line q o)) s) (c.cross.ensures.answer ∙ pick_admissible s (sound_of c.args.state.now) q o e)
+    ∙ ap₂ (λ t l. cond t (pushed s l) s) (c.cross.ensures.answer ∙ ap (admissible s) line ∙ pick_admissible s (sound_of c.args.state.now) q o e) line
     ∙ other_crossed q c.args.picked o s e c.if-option-picked.false

@@ -1,5 +1,4 @@
 use Rattle.std.proofs.Common.{◌+◌, map, get_or, drop, sym, ap, ◌∙◌}
-use Rattle.record.specs.View.{view}
 use Rattle.lines.specs.Marks.{noted}
 use Rattle.reading.specs.Readings.{heard_of}
 use Rattle.sitting.specs.Tales.{tale}
@@ -12,10 +11,10 @@ loop-entry-preserved g c =
     let i = c.loop-entry.entry-index in
     let entries = c.args.entries.now in
     let same = c.loop-entry.invariant.0 in
-    let b = g.B.Book.model c.args.sheet.now.book.now in
-    let why = g.B.ReasoningBook.reasons c.args.sheet.now.book.now in
+    let b = g.B.Book.model c.args.sheet.now.book in
+    let why = g.B.ReasoningBook.reasons c.args.sheet.now.book in
     let entry = get_or entries i no_entry in
-    let scene : Scene = record { state = view c.loop-entry.sheet.state; tale = tale c.loop-entry.told } in (
+    let scene : Scene = record { state = c.loop-entry.sheet.state; tale = tale c.loop-entry.told } in (
       c.obey_line.ensures.book ∙ same,
       ap (all_obeyed b why (map noted (drop (i + 1) entries)))
           (c.in_ok-obey_line.ensures.scene ∙ (λ k. obeyed (g.B.Book.model (same k)) (g.B.ReasoningBook.reasons (same k)) (noted entry) (heard_of entry.text.now) scene))

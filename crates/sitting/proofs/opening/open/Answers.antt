@@ -12,22 +12,23 @@ use Rattle.sitting.proofs.opening.open.Goals as goal
 pub returns-in-Err : goal.returns-in-Err
 returns-in-Err c =
     IfOk-weaker c.refuse.result _ _
-    (λ done e. e ∙ rules_refused _ c.args.sizes.now (map noted c.args.calls.now) _ (rules_of c.args.ledger.now) c.in-Err.refusal c.in-Err.ensures.answer)
+    (λ done e. e ∙ rules_refused _ c.args.opening.sizes.now (map noted c.args.opening.calls.now) _ (rules_of c.args.ledger.now) c.in-Err.refusal c.in-Err.ensures.answer)
     c.refuse.ensures
 
-pub returns : goal.returns
-returns c =
-    let n = noted c.args.entry in
-    let sizes = c.args.sizes.now in
-    let calls = map noted c.args.calls.now in
+pub returns-in-Ok : goal.returns-in-Ok
+unfolding gap_model gap_reasons differ_model differ_reasons
+returns-in-Ok c =
+    let n = noted c.args.opening.line in
+    let sizes = c.args.opening.sizes.now in
+    let calls = map noted c.args.opening.calls.now in
     let t = tale c.args.told.now in
-    let rows = c.in_default.ensures.rows in
-    let tables = c.in_default.ensures.tables in
-    let gaps = c.in_default.ensures.gaps in
-    let differs = c.in_default.ensures.differs in
+    let rows = c.in-Ok.ensures.rows in
+    let tables = c.in-Ok.ensures.tables in
+    let gaps = c.in-Ok.ensures.gaps in
+    let differs = c.in-Ok.ensures.differs in
     IfOk-weaker c.open_on_three.result _ _
     (λ done e.
     e
     ∙ (λ i. on_three (table_model (rows i) (tables i)) (table_reasons (rows i) (tables i)) (gap_model (gaps i)) (gap_reasons (gaps i)) (differ_model (differs i)) (differ_reasons (differs i)) n sizes calls t)
-    ∙ rules_granted n sizes calls t (rules_of c.args.ledger.now) c.in_default.ensures.answer)
+    ∙ rules_granted n sizes calls t (rules_of c.args.ledger.now) c.in-Ok.ensures.answer)
     c.open_on_three.ensures

@@ -14,7 +14,7 @@ returns-in-Ok g c =
     IfOk-weaker c.open_on_two.result _ _
     (λ done e.
     e
-    ∙ (λ i. on_two (g.F.Book.model c.args.first.now) (g.F.ReasoningBook.reasons c.args.first.now) (pair_model (g.S.Book.model (second i)) (g.T.Book.model (third i))) (pair_reasons (g.S.Book.model (second i)).rules (g.S.ReasoningBook.reasons (second i)) (g.T.ReasoningBook.reasons (third i))) (noted c.args.entry) c.args.sizes.now (map noted c.args.calls.now) (tale c.args.told.now))
+    ∙ (λ i. on_two (g.F.Book.model c.args.first.now) (g.F.ReasoningBook.reasons c.args.first.now) (pair_model (g.S.Book.model (second i)) (g.T.Book.model (third i))) (pair_reasons (g.S.Book.model (second i)).rules (g.S.ReasoningBook.reasons (second i)) (g.T.ReasoningBook.reasons (third i))) (noted c.args.opening.line) c.args.opening.sizes.now (map noted c.args.opening.calls.now) (tale c.args.told.now))
     ∙ three_granted _ _ _ _ _ _ _ _ _ _ c.in-Ok.ensures.answer)
     c.open_on_two.ensures
 

@@ -14,7 +14,7 @@ returns-in-Ok g c =
     IfOk-weaker c.open_on.result _ _
     (λ done e.
     e
-    ∙ (λ i. on_book (pair_model (g.F.Book.model (first i)) (g.S.Book.model (second i))) (pair_reasons (g.F.Book.model (first i)).rules (g.F.ReasoningBook.reasons (first i)) (g.S.ReasoningBook.reasons (second i))) (noted c.args.entry) c.args.sizes.now (map noted c.args.calls.now) (tale c.args.told.now))
+    ∙ (λ i. on_book (pair_model (g.F.Book.model (first i)) (g.S.Book.model (second i))) (pair_reasons (g.F.Book.model (first i)).rules (g.F.ReasoningBook.reasons (first i)) (g.S.ReasoningBook.reasons (second i))) (noted c.args.opening.line) c.args.opening.sizes.now (map noted c.args.opening.calls.now) (tale c.args.told.now))
     ∙ two_granted _ _ _ _ _ _ _ _ c.in-Ok.ensures.answer)
     c.open_on.ensures
 

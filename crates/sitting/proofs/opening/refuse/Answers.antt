@@ -1,5 +1,5 @@
 use Rattle.std.proofs.Common.{false}
-use Rattle.showing.specs.Denials.{denied_text}
+use Rattle.terms.specs.Denials.{denied_text}
 use Rattle.sitting.proofs.TaleLaws.{tale_faulted}
 use Rattle.sitting.proofs.opening.refuse.Goals as goal
 

@@ -1,30 +1,20 @@
-use Rattle.std.proofs.Common.{◌≡◌, length, get_or, sym, ap, ◌∙◌, arith, rules}
-use Rattle.std.proofs.lemmas.List.{get_or-take, get_or_past}
-use Rattle.terms.specs.Scopes.{question_at}
-use Rattle.terms.proofs.ScopeLaws.{positions_is, mask_here, mask_past}
+use Rattle.std.proofs.Common.{◌≡◌, ◌<◌, ltb, length, get_or, sym, ap, ◌∙◌, subst, arith}
+use Rattle.std.proofs.lemmas.Bool.{cond-false}
+use Rattle.std.specs.Option.{unwrap_or}
+use Rattle.terms.specs.Scopes.{mask_at, positions_of}
+use Rattle.terms.proofs.ScopeLaws.{mask_here}
 use Rattle.terms.proofs.scope.mask_at.Goals as goal
-use Rattle.terms.proofs.scope.mask_at.Goals.{then-position-ge4-via-then-position-ge4, then-position-ge4-via-else-position-ge4+then-position-scope}
 
-pub returns-then-position-ge4 : goal.returns-then-position-ge4
-returns-then-position-ge4 c =
-    let four : length c.args.scope.questions ≡ 4 = search rules in
-    let is = positions_is c.args.scope four in
-    elim c.then-position-ge4.branch [
-      | then-position-ge4-via-then-position-ge4 w ↦ sym (mask_past c.args.masks c.args.scope c.args.position (omega arith))
-      | then-position-ge4-via-else-position-ge4+then-position-scope w ↦ sym (mask_past c.args.masks c.args.scope c.args.position (omega arith))
-    ]
+pub returns-in-Some : goal.returns-in-Some
+returns-in-Some c =
+    let l : c.args.position < length c.tied.result.now = c.in-Some.ensures.lookup.3.0 in
+    let here : c.in-Some.question.now ≡ get_or c.tied.result.now c.args.position 0 = c.in-Some.ensures.lookup.4 (omega arith) 0 in
+    let past : c.args.position < positions_of c.args.scope = subst (λ qs. c.args.position < length qs) c.tied.ensures l in
+    c.unwrap_or.ensures ∙ ap (λ o. unwrap_or o 0) c.copied.ensures ∙ c.get-in-Some.ensures.lookup.4 (omega arith) 0
+    ∙ ap (λ q. get_or c.args.masks q 0) (c.from.ensures ∙ here ∙ ap (λ qs. get_or qs c.args.position 0) c.tied.ensures)
+    ∙ sym (mask_here c.args.masks c.args.scope c.args.position past)
 
-pub returns-then-question-lt16 : goal.returns-then-question-lt16
-returns-then-question-lt16 c =
-    let four : length c.args.scope.questions ≡ 4 = search rules in
-    let is = positions_is c.args.scope four in
-    ap (λ q. get_or c.args.masks q 0) (sym (get_or-take c.args.scope.count c.args.scope.questions c.args.position 0 c.if-position-scope.false))
-    ∙ sym (mask_here c.args.masks c.args.scope c.args.position (omega arith))
-
-pub returns-else-question-lt16 : goal.returns-else-question-lt16
-returns-else-question-lt16 c =
-    let four : length c.args.scope.questions ≡ 4 = search rules in
-    let sixteen : length c.args.masks ≡ 16 = search rules in
-    let is = positions_is c.args.scope four in
-    let same = get_or-take c.args.scope.count c.args.scope.questions c.args.position 0 c.if-position-scope.false in
-    sym (mask_here c.args.masks c.args.scope c.args.position (omega arith) ∙ get_or_past c.args.masks (question_at c.args.scope c.args.position) 0 (omega arith))
+pub returns-in-None : goal.returns-in-None
+unfolding mask_at
+returns-in-None c =
+    sym (cond-false _ _ _ (ap (λ qs. ltb c.args.position (length qs)) (sym c.tied.ensures) ∙ sym c.in-None.ensures.lookup.0))

@@ -1,4 +1,4 @@
-use Rattle.std.proofs.Common.{◌≡◌, ℕ, ◌<◌, ◌≤◌, not, ltb, get_or, take, is_some, Some, None, sym, refl, ap, ◌∙◌, ap₂, arith}
+use Rattle.std.proofs.Common.{◌≡◌, ℕ, ◌<◌, ◌≤◌, not, ltb, get_or, is_some, Some, None, sym, refl, ap, ◌∙◌, ap₂, arith}
 use Rattle.std.proofs.lemmas.Bool.{lt-ltb, le-ltb}
 use Rattle.terms.specs.declared.refusal.Refusal.TheVariants.{NoSuchQuestion, NoSuchOption, PickStands}
 use Rattle.record.specs.State.{State}
@@ -59,6 +59,6 @@ returns c =
         placed = d.placed i;
         scopes = c.args.self.now.scopes;
         crossed = c.args.self.now.crossed;
-        log = take c.args.self.now.lines c.args.self.now.log;
+        log = c.args.self.now.log.items;
       };
     }

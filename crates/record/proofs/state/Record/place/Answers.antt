@@ -1,4 +1,4 @@
-use Rattle.std.proofs.Common.{◌≡◌, ℕ, Bool, true, false, not, ltb, take, set, None, Option, sym, refl, ap, ◌∙◌, subst, ap₂}
+use Rattle.std.proofs.Common.{◌≡◌, ℕ, Bool, true, false, not, ltb, set, None, Option, sym, refl, ap, ◌∙◌, subst, ap₂}
 use Rattle.std.proofs.lemmas.List.{length-set}
 use Rattle.std.proofs.lemmas.Bool.{lt-ltb, le-ltb}
 use Rattle.terms.specs.Masks.{has}
@@ -52,10 +52,9 @@ returns-then-has_rule c =
 pub invariant_of-self-2 : goal.invariant_of-self-2
 invariant_of-self-2 c =
     let r = c.args.self.now in
-    let log = take r.lines r.log in record {
+    let log = r.log.items in record {
       rules = length-set r.scopes c.args.rule c.args.scope ∙ r.rules;
       questions = r.questions;
-      room = r.room;
       heads = r.heads;
       declared = r.declared;
       once = r.once;
@@ -76,6 +75,6 @@ returns c =
         placed = c.with_rule-self.ensures i;
         scopes = set c.args.self.now.scopes c.args.rule c.args.scope;
         crossed = c.args.self.now.crossed;
-        log = take c.args.self.now.lines c.args.self.now.log;
+        log = c.args.self.now.log.items;
       };
     }

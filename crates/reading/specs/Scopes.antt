@@ -1,0 +1,14 @@
+-- A scope of the numbers that were written, however many. Assumes nothing.
+use Rattle.std.specs.Prelude.{ℕ, min, List, [], ◌∷◌, length, slice_index}
+use Rattle.terms.specs.declared.scope.Scope.{Scope}
+
+-- how many there are, 255 where there are more
+unfoldable pub count_of : List ℕ → ℕ
+count_of ns = min (length ns) 255
+
+-- the first four, with 0 for each that is not there
+unfoldable pub first_four : List ℕ → List ℕ
+first_four ns = slice_index ns 0 ∷ slice_index ns 1 ∷ slice_index ns 2 ∷ slice_index ns 3 ∷ []
+
+abbrev pub scope_of : List ℕ → Scope
+scope_of ns = record { count = count_of ns; questions = first_four ns }
