@@ -1,14 +1,14 @@
 -- What fitting questions are, and how the test goes along a list. Assumes nothing.
-use Rattle.std.proofs.Common.{◌≡◌, ℕ, zero, suc, ◌+◌, ◌<◌, ◌≤◌, min, cond, Bool, true, false, not, ◌&&◌, ◌||◌, eqb, ltb, leb, ◌⊎◌, List, [], ◌∷◌, length, get_or, is_some, Some, None, Option, sym, refl, ap, ◌∙◌, inl, inr, add-one, le_of_suc-le-suc, not-suc-le-zero, arith}
-use Rattle.std.specs.List.{AllByRecursion as All, position, position_from}
+use Rattle.std.proofs.Common.{◌≡◌, ℕ, zero, suc, ◌<◌, ◌≤◌, min, cond, Bool, true, false, not, ◌&&◌, ◌||◌, eqb, ltb, leb, ◌⊎◌, List, [], ◌∷◌, length, get_or, is_some, Some, None, Option, sym, refl, ap, ◌∙◌, inl, inr, le_of_suc-le-suc, not-suc-le-zero, arith}
+use Rattle.std.specs.List.{AllByRecursion as All, position}
 use Rattle.std.specs.Option.{option_map}
-use Rattle.std.proofs.lemmas.Iterator.Adapters.{position_from-zero}
 use Rattle.std.proofs.lemmas.Bool.{and_parts, and_left, and_right, not-true, not_from_true, lt-ltb, le-ltb, ltb-true, leb-true, eqb-true, both_ways, eq-eqb, or_right, lt-leb, le-leb, cases_lt, cases_Bool, false≢true}
 use Rattle.terms.specs.Masks.{has, with}
 use Rattle.terms.specs.Scopes.{questions_of}
 use Rattle.terms.specs.declared.scope.Scope.{Scope}
 use Rattle.terms.specs.declared.refusal.Refusal.{Refusal}
 use Rattle.terms.specs.declared.refusal.Refusal.TheVariants.{BadQuestions, TooManyRules}
+use Rattle.terms.proofs.Lowest.{lowest_of}
 use Rattle.terms.proofs.MaskLaws.{has-with}
 use Rattle.books.specs.Plain.{Tied}
 use Rattle.books.specs.Questions.{fresh, fits, first_fault, refused_unless, lowest, misfit, first_of, too_many, rules_fault}
@@ -80,24 +80,16 @@ lowest_later : {R : Type 0} (test : R → Bool) (refusal : ℕ → Refusal) (r :
 unfolding first_fault
 lowest_later test refusal r x xs e = ap (λ b. first_of (refused_unless b (refusal r)) (lowest test refusal (suc r) xs)) e
 
-lowest_from : {R : Type 0} (test : R → Bool) (refusal : ℕ → Refusal) (r : ℕ) (xs : List R) → option_map refusal (position_from (λ x. not (test x)) r xs) ≡ lowest test refusal r xs
-unfolding first_fault
-lowest_from test refusal r [] = refl
-lowest_from test refusal r (x ∷ xs) =
-    elim (cases_Bool (test x)) [
-      | inl e ↦
-          ap (λ b. option_map refusal (cond (not b) (Some r) (position_from (λ x. not (test x)) (r + 1) xs))) e
-          ∙ ap (λ k. option_map refusal (position_from (λ x. not (test x)) k xs)) (add-one r)
-          ∙ lowest_from test refusal (suc r) xs
-          ∙ sym (lowest_later test refusal r x xs e)
-      | inr e ↦
-          ap (λ b. option_map refusal (cond (not b) (Some r) (position_from (λ x. not (test x)) (r + 1) xs))) e
-          ∙ sym (lowest_here test refusal r x xs e)
-    ]
+unless_passed : (b : Bool) (e : Refusal) (rest : Option Refusal) → first_of (refused_unless b e) rest ≡ cond (not b) (Some e) rest
+unless_passed true e rest = refl
+unless_passed false e rest = refl
 
 -- what `position` finds is refused
 pub lowest_found : {R : Type 0} (test : R → Bool) (refusal : ℕ → Refusal) (xs : List R) (found : Option ℕ) → found ≡ position (λ x. not (test x)) xs → option_map refusal found ≡ lowest test refusal 0 xs
-lowest_found test refusal xs found e = ap (option_map refusal) (e ∙ position_from-zero (λ x. not (test x)) xs) ∙ lowest_from test refusal 0 xs
+unfolding first_fault
+lowest_found test refusal xs found e =
+    ap (option_map refusal) e
+    ∙ sym (lowest_of (λ x. not (test x)) refusal (lowest test refusal) (λ r. refl) (λ r x rest. unless_passed (test x) (refusal r) (lowest test refusal (suc r) rest)) xs)
 
 pub over : (n : ℕ) (f : Option Refusal) → 64 < n → too_many n f ≡ Some TooManyRules
 unfolding too_many

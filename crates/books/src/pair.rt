@@ -8,7 +8,9 @@ use terms::refusal::Refusal;
 use terms::scope::{NO_SCOPE, Scope};
 
 // Of two books of any kind, pairs too, both lent. Every pair that `new` makes has all the rules of the two;
-// that no rule is above 63 is said once more in what a pair means, since no invariant can speak of the books.
+// that no rule is above 63 is said once more in what a pair means, so that a pair needs no fact beside its books.
+// Each call splits the rules at the first book's count by itself: a function that did it would be asked three unlike
+// things of either book.
 #[derive(Clone, Copy)]
 pub struct Pair<'a, F, S> {
     first: &'a F,

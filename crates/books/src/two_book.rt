@@ -8,6 +8,7 @@ use crate::owing::owed;
 use crate::questions::rules_fault;
 use crate::two_rule::TwoRule;
 use std::alloc::AllocError;
+use terms::lookup::item_or;
 use terms::masks::{has, with};
 use terms::refusal::Refusal;
 use terms::scope::Scope;
@@ -56,10 +57,7 @@ impl<'a, R: TwoRule> TwoBook<'a, R> {
     fn rule_at(&self, rule: u8) -> R
         ensures { result ≡ slice_index_or self.now.rules.now rule R.NONE }
     {
-        self.rules
-            .get(usize::from(rule))
-            .copied()
-            .unwrap_or(R::NONE)
+        item_or(self.rules, rule, R::NONE)
     }
 }
 
@@ -81,7 +79,8 @@ fn has_partner<R: TwoRule>(rule: &R, seat: Seat, mask: u32) -> bool
     (0..32u8).any(|x| has(mask, x) && beside(rule, seat, x))
 }
 
-// The options of the mask that go with that of the seat.
+// The options of the mask that go with that of the seat. A loop over the options: what `filter` and `fold` do to a mask
+// would have to be proved of lists first.
 #[tactic(auto, using(crate::proofs::TwoLaws::kept_none, crate::proofs::TwoLaws::kept_more, crate::proofs::TwoLaws::kept_same))]
 fn partners<R: TwoRule>(rule: &R, seat: Seat, mask: u32) -> u32
     ensures { result ≡ kept_below (beside (R.pairs rule.now) seat.position seat.option) 32 mask }

@@ -13,7 +13,7 @@ use Rattle.calls.specs.declared.answer.Answer.{Answer}
 use Rattle.calls.specs.declared.answer.Answer.TheVariants.{Done, Lines, Standing, Overview}
 
 abbrev pub overview_of : State → Answer
-overview_of s = Overview s.count (standing_each s)
+overview_of s = Overview (record { count = s.count; masks = standing_each s })
 
 -- the refusal, or the answer where there is none
 abbrev pub unless_denied : Option Refusal → Answer → Result Answer Refusal

@@ -10,7 +10,7 @@ abbrev pub answer_text : Answer → List ℕ
 answer_text Done = codes "done"
 answer_text (Lines count) = decimal count ++ codes " lines"
 answer_text (Standing mask) = options_text mask
-answer_text (Overview count masks) = overview_text count masks
+answer_text (Overview o) = overview_text o.count o.masks
 
 -- an answer, or a refusal
 abbrev pub told_text : Result Answer Refusal → List ℕ

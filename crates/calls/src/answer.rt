@@ -14,8 +14,8 @@ pub enum Answer {
     Lines(usize),
     // The standing options of one question.
     Standing(u32),
-    // Those of every question, of which there are `count`.
-    Overview { count: u8, masks: [u32; 16] },
+    // Those of every question.
+    Overview(Overview),
 }
 
 impl fmt::Display for Answer {
@@ -26,7 +26,7 @@ impl fmt::Display for Answer {
             Answer::Done => f.write_str("done"),
             Answer::Lines(count) => write!(f, "{count} lines"),
             Answer::Standing(mask) => f.write(Options(mask)),
-            Answer::Overview { count, masks } => f.write(Overview { count, masks }),
+            Answer::Overview(overview) => f.write(overview),
         }
     }
 }

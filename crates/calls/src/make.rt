@@ -5,6 +5,7 @@ ghost use Rattle.calls.specs.Answers.{overview_of, answer_of, after_call};
 use crate::answer::Answer;
 use books::book::{Book, ReasoningBook};
 use sheet::sheet::Sheet;
+use showing::overview::Overview;
 use terms::call::Call;
 use terms::refusal::Refusal;
 
@@ -12,13 +13,13 @@ use terms::refusal::Refusal;
 pub fn overview<B: ReasoningBook>(sheet: &Sheet<'_, B>) -> Answer
     ensures { result ≡ overview_of sheet.now.state }
 {
-    Answer::Overview {
+    Answer::Overview(Overview {
         count: sheet.docket().count(),
         masks: sheet.overview(),
-    }
+    })
 }
 
-// Makes the call and says what it answered.
+// Makes the call and says what it answered. Each arm has arguments and an answer of its own, so no table of functions.
 pub fn make<B: ReasoningBook>(sheet: &mut Sheet<'_, B>, call: Call) -> Result<Answer, Refusal>
     ensures answer { result ≡ answer_of (B.Book.model sheet.old.book) (B.reasons sheet.old.book) call sheet.old.state }
     ensures after { sheet.new ≡ record { book = sheet.old.book; state = after_call (B.Book.model sheet.old.book) (B.reasons sheet.old.book) call sheet.old.state } }

@@ -12,18 +12,21 @@ fn input(rt: &HostRuntime) -> io::Result<String> {
     }
 }
 
-// Answers whether every line could be taken.
-fn sit(rt: &HostRuntime) -> io::Result<bool> {
+// Succeeds where every line could be taken.
+fn sit(rt: &HostRuntime) -> io::Result<ExitCode> {
     let text = input(rt)?;
     let told = run(rt.alloc(), text.as_str())?;
     rt.print(told.text.as_str())?;
-    Ok(told.sound)
+    Ok(if told.sound {
+        ExitCode::SUCCESS
+    } else {
+        ExitCode::FAILURE
+    })
 }
 
 fn main(rt: HostRuntime) -> ExitCode {
     match sit(&rt) {
-        Ok(true) => ExitCode::SUCCESS,
-        Ok(false) => ExitCode::FAILURE,
+        Ok(code) => code,
         Err(error) => {
             let _ = eprintln!(rt; "chooser: {error}");
             ExitCode::FAILURE

@@ -11,6 +11,7 @@ use tables::table::{TableBook, TableRule};
 use terms::refusal::Refusal;
 use terms::scope::Scope;
 
+// A table's rows are a run of the one list that its book is lent.
 #[derive(Drop)]
 pub struct Ledger {
     rows: Vec<u32>,

@@ -1,3 +1,4 @@
 pub mod Colons
 mod Rows
 mod Samples
+pub mod Words

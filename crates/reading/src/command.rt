@@ -18,7 +18,8 @@ pub enum Command {
     Call(Call),
 }
 
-// The command of a verb that only numbers follow, if they are as many as it takes.
+// The command of a verb that only numbers follow, if they are as many as it takes. The verbs take unlike numbers to
+// unlike commands, so no table of functions.
 pub fn with_numbers(verb: Verb, numbers: &[u8]) -> Option<Command>
     ensures { result ≡ command_of verb numbers.now }
 {

@@ -10,7 +10,7 @@ ghost use Rattle.reading.specs.Tables.{row_of, rows_of, table_of};
 use crate::command::{Command, with_numbers};
 use crate::fault::{Fault, Unread, Wrong};
 use crate::numbers::{number, numbers};
-use crate::scopes::{count_of, first_four, scope_of};
+use crate::scopes::{count_of, first_four, scope_in, scope_of};
 use lines::words::words;
 use std::alloc::{AllocError, Global};
 use wording::numbers::written;
@@ -53,7 +53,7 @@ fn headed<'w, 'a>(words: &'w [&'a str]) -> (&'a str, &'w [&'a str])
     }
 }
 
-// The command of the verb, from the words that follow it.
+// The command of the verb, from the words that follow it: each kind reads other things, so no table of functions.
 fn command<'a>(
     heap: Global,
     verb: Verb,
@@ -103,8 +103,7 @@ fn table<'a>(heap: Global, line: &'a str) -> Result<Command, Unread<'a>>
     let (before, after) = line.split_once(':').ok_or(Wrong::NoColon)?;
     let words = words(heap, before)?;
     let (_verb, questions) = headed(words.as_slice());
-    let questions = numbers(heap, questions)?;
-    let scope = scope_of(questions.as_slice());
+    let scope = scope_in(questions)?;
     let rows = rows(heap, after, scope.count)?;
     Ok(Command::Table { scope, rows })
 }

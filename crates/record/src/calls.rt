@@ -15,6 +15,7 @@ use terms::{masks, scope};
 
 impl Record {
     // A sheet with no picks, no placed rules and an empty log.
+    #[tactic(auto, unfolding(crate::specs::View::view, crate::specs::Calls::opened))]
     pub fn open(sizes: &[u8]) -> Result<Record, Refusal>
         ensures answer { told result ≡ open_fault sizes.now }
         ensures state { IfOk result (λ s. view s ≡ opened sizes.now) }
@@ -28,6 +29,7 @@ impl Record {
     }
 
     // Notes the rule with its questions.
+    #[tactic(auto, unfolding(crate::specs::View::view, crate::specs::Calls::place_fault, crate::specs::Calls::noted_rule))]
     pub fn place(&mut self, rule: u8, scope: Scope) -> Result<(), Refusal>
         ensures answer { told result ≡ place_fault (view self.old) rule scope }
         ensures after { view self.new ≡ unless (told result) (view self.old) (noted_rule (view self.old) rule scope) }
@@ -47,6 +49,7 @@ impl Record {
     }
 
     // Notes the pick.
+    #[tactic(auto, unfolding(crate::specs::View::view, crate::specs::Calls::pick_fault, crate::specs::Calls::noted_pick))]
     pub fn pick(&mut self, question: u8, option: u8) -> Result<(), Refusal>
         ensures answer { told result ≡ pick_fault (view self.old) question option }
         ensures after { view self.new ≡ unless (told result) (view self.old) (noted_pick (view self.old) question option) }
@@ -65,30 +68,30 @@ impl Record {
     }
 
     // Whether the line may come next.
+    #[tactic(auto, unfolding(crate::specs::View::view, crate::specs::Calls::admissible))]
     fn admits(&self, line: &Line) -> bool
         ensures { result ≡ admissible (view self.now) line.now }
     {
-        let question = line.question as usize;
-        if question >= 16 || line.option >= self.docket.sizes[question] {
-            return false;
-        }
-        let stands = !masks::has(self.crossed[question], line.option);
-        let backed = masks::within_each(line.reason, self.crossed_at(line.rule));
-        stands & backed
+        let crossed = masks::mask_of(self.crossed, line.question);
+        line.option < self.docket.size(line.question)
+            && !masks::has(crossed, line.option)
+            && masks::within_each(line.reason, self.crossed_at(line.rule))
     }
 
     // The crossed options at the positions of a placed rule; nothing for any other.
+    #[tactic(auto, unfolding(crate::specs::View::view, crate::specs::Calls::crossed_at))]
     fn crossed_at(&self, rule: u8) -> [u32; 4]
         ensures { result ≡ crossed_at (view self.now) rule }
     {
-        if rule < 64 && masks::has_rule(self.docket.placed, rule) {
-            scope::masks_at(self.crossed, self.scopes[rule as usize])
+        if self.is_placed(rule) {
+            scope::masks_at(self.crossed, self.scope(rule))
         } else {
             [0; 4]
         }
     }
 
     // Writes the line and crosses its head, if it may come next.
+    #[tactic(auto, unfolding(crate::specs::View::view, crate::specs::Calls::pushed))]
     pub fn cross(&mut self, line: &Line) -> bool
         ensures answer { result ≡ admissible (view self.old) line.now }
         ensures after { view self.new ≡ (if result then pushed (view self.old) line.now else view self.old) }
@@ -103,6 +106,7 @@ impl Record {
     }
 
     // Copies the log into the caller's lines from the first place; too few of them get the first lines that fit.
+    // The lines are the caller's, since nothing here allocates.
     pub fn copy_log(&self, lines: &mut [Line]) -> Result<usize, Refusal>
         ensures answer { told result ≡ copy_fault (view self.now).log lines.old }
         ensures count { IfOk result (λ n. n ≡ length (view self.now).log) }

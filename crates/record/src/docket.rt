@@ -3,7 +3,8 @@ ghost use Rattle.std.specs.Prelude.{◌≡◌, ◌^◌, ◌<◌, ◌≤◌, leng
 ghost use Rattle.record.specs.Sound.{Large, Small, Past, Picked};
 
 // Question count, sizes, picks and placed rules (bit r is rule r). It is made only in this crate, so it is always well formed:
-// 1 to 16 questions of 1 to 32 options, and each pick among its question's options.
+// 1 to 16 questions of 1 to 32 options, and each pick among its question's options. It is copied out of a sheet by value,
+// without a heap, so its sizes and picks are arrays of sixteen with the count beside.
 #[derive(Clone, Copy)]
 pub struct Docket {
     pub(crate) count: u8,

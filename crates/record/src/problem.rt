@@ -42,7 +42,8 @@ pub(crate) fn on_sheet(scope: Scope, count: u8) -> bool
 }
 
 impl Docket {
-    // The problem with these sizes, no picks and no placed rules.
+    // The problem with these sizes, no picks and no placed rules. An opening passes through this, a record's and a
+    // sheet's `open`, and each has to say of its own result what `check_sizes` refuses.
     pub(crate) fn unpicked(sizes: &[u8]) -> Result<Docket, Refusal>
         ensures answer { told result ≡ open_fault sizes.now }
         ensures value { IfOk result (Unpicked sizes.now) }

@@ -10,6 +10,7 @@ ghost use Rattle.record.specs.View.{view};
 use crate::docket::Docket;
 use crate::state::Record;
 use terms::line::Line;
+use terms::lookup::item_or;
 use terms::masks;
 use terms::scope::{NO_SCOPE, Scope};
 
@@ -25,14 +26,14 @@ impl Docket {
     pub fn size(&self, question: u8) -> u8
         ensures { result ≡ slice_index self.now.sizes question }
     {
-        self.sizes.get(question as usize).copied().unwrap_or(0)
+        item_or(&self.sizes, question, 0)
     }
 
     // A question's pick.
     pub fn pick(&self, question: u8) -> Option<u8>
         ensures { result ≡ slice_index_or self.now.picks question None }
     {
-        self.picks.get(question as usize).copied().flatten()
+        item_or(&self.picks, question, None)
     }
 
     // The placed rules: bit r is rule r.
@@ -62,7 +63,7 @@ impl Record {
     pub fn scope(&self, rule: u8) -> Scope
         ensures { result ≡ slice_index_or (view self.now).scopes rule unscoped }
     {
-        self.scopes.get(rule as usize).copied().unwrap_or(NO_SCOPE)
+        item_or(&self.scopes, rule, NO_SCOPE)
     }
 
     // The declared options, question by question.

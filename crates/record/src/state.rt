@@ -11,6 +11,7 @@ use terms::scope::Scope;
 // The problem, the questions of its rules as they were noted at place, the crossed options and the log.
 // The crossed options are exactly the heads of the log, no head comes twice, a reason holds only heads of earlier lines,
 // and there are as many lines as crossed options, so that 512 lines always suffice.
+// Which rules are noted is the docket's to say, which is handed out alone: the scopes have no mark of their own.
 #[derive(Drop)]
 pub struct Record {
     pub(crate) docket: Docket,

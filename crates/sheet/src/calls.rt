@@ -10,10 +10,13 @@ use books::book::{Book, ReasoningBook};
 use record::docket::Docket;
 use record::state::Record;
 use terms::line::Line;
+use terms::masks::mask_of;
 use terms::refusal::Refusal;
 
+// Each call says of itself that it keeps a valid log valid; why the sheet does not is said at `settle`.
 impl<'a, B: ReasoningBook> Sheet<'a, B> {
     // A sheet with no picks, no placed rules and an empty log, which is valid.
+    #[tactic(auto, using(crate::proofs::Notes::open_valid))]
     pub fn open(book: &'a B, sizes: &[u8]) -> Result<Sheet<'a, B>, Refusal>
         ensures answer { told result ≡ open_fault sizes.now }
         ensures sheet { IfOk result (λ s. s ≡ record { book = book.now; state = opened sizes.now }) }
@@ -47,6 +50,7 @@ impl<'a, B: ReasoningBook> Sheet<'a, B> {
     }
 
     // The standing options of one question.
+    #[tactic(auto, unfolding(crate::specs::Calls::question_fault))]
     pub fn standing(&self, question: u8) -> Result<u32, Refusal>
         ensures answer { told result ≡ question_fault self.now.state question }
         ensures mask { IfOk result (λ m. m ≡ slice_index (standing_each self.now.state) question) }
@@ -54,8 +58,7 @@ impl<'a, B: ReasoningBook> Sheet<'a, B> {
         if question >= self.docket().count() {
             return Err(Refusal::NoSuchQuestion { question });
         }
-        let standing = self.overview();
-        Ok(standing[question as usize])
+        Ok(mask_of(self.overview(), question))
     }
 
     // The standing options of every question, and nothing past the last.
@@ -66,6 +69,7 @@ impl<'a, B: ReasoningBook> Sheet<'a, B> {
     }
 
     // The problem that the sheet is about.
+    #[tactic(auto, unfolding(record::specs::View::view))]
     pub fn docket(&self) -> Docket
         ensures count { result.count ≡ self.now.state.count }
         ensures sizes { result.sizes ≡ self.now.state.sizes }
@@ -83,6 +87,7 @@ impl<'a, B: ReasoningBook> Sheet<'a, B> {
     }
 
     // Copies the log into the caller's lines and answers how many there are; too few places get the first lines that fit.
+    // For a caller who keeps the lines while the sheet goes on; who only reads them is lent `log`.
     pub fn copy_log(&self, lines: &mut [Line]) -> Result<usize, Refusal>
         ensures answer { told result ≡ copy_fault self.now.state.log lines.old }
         ensures count { IfOk result (λ n. n ≡ length self.now.state.log) }

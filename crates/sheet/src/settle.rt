@@ -17,8 +17,8 @@ use terms::{masks, scope};
 fn cross_other(state: &mut Record, question: u8, picked: u8, option: u8)
     ensures { view state.new ≡ cross_other question picked option (view state.old) }
 {
-    let standing = state.standing();
-    if question >= 16 || !masks::has(standing[question as usize], option) || option == picked {
+    let standing = masks::mask_of(state.standing(), question);
+    if !masks::has(standing, option) || option == picked {
         return;
     }
     let line = Line {
@@ -32,6 +32,7 @@ fn cross_other(state: &mut Record, question: u8, picked: u8, option: u8)
 }
 
 // Crosses every standing option of a picked question but the pick.
+#[tactic(auto, using(crate::proofs::Steps::upto_more), unfolding(crate::specs::Settle::upto))]
 fn cross_others(state: &mut Record, question: u8, picked: u8)
     ensures { view state.new ≡ upto (cross_other question picked) 32 (view state.old) }
 {
@@ -41,13 +42,13 @@ fn cross_others(state: &mut Record, question: u8, picked: u8)
 }
 
 // Writes the pick lines, question by question.
+#[tactic(auto, using(crate::proofs::Steps::upto_more, crate::proofs::Steps::question_picked, crate::proofs::Steps::question_unpicked), unfolding(crate::specs::Settle::upto, crate::specs::Settle::pick_lines))]
 fn write_picks(state: &mut Record)
     ensures { view state.new ≡ pick_lines (view state.old) }
 {
     for question in 0..16u8 {
-        match state.docket().pick(question) {
-            Some(picked) => cross_others(state, question, picked),
-            None => {}
+        if let Some(picked) = state.docket().pick(question) {
+            cross_others(state, question, picked);
         }
     }
 }
@@ -81,6 +82,7 @@ fn visit_option<B: ReasoningBook>(book: &B, state: &mut Record, seat: Seat)
     let _ = state.cross(&line);
 }
 
+#[tactic(auto, using(crate::proofs::Steps::upto_more), unfolding(crate::specs::Settle::upto, crate::specs::Settle::visit_position))]
 fn visit_position<B: ReasoningBook>(book: &B, state: &mut Record, rule: u8, position: u8)
     requires { has (view state.old).placed rule ≡ true }
     ensures { view state.new ≡ visit_position (B.Book.model book.now) (B.reasons book.now) rule position (view state.old) }
@@ -95,6 +97,7 @@ fn visit_position<B: ReasoningBook>(book: &B, state: &mut Record, rule: u8, posi
     }
 }
 
+#[tactic(auto, using(crate::proofs::Steps::upto_more, crate::proofs::Steps::rule_placed, crate::proofs::Steps::rule_absent), unfolding(crate::specs::Settle::upto))]
 fn visit_rule<B: ReasoningBook>(book: &B, state: &mut Record, rule: u8)
     ensures { view state.new ≡ visit_rule (B.Book.model book.now) (B.reasons book.now) rule (view state.old) }
 {
@@ -108,6 +111,7 @@ fn visit_rule<B: ReasoningBook>(book: &B, state: &mut Record, rule: u8)
 }
 
 // One round over the placed rules; says whether it crossed anything.
+#[tactic(auto, using(crate::proofs::Steps::upto_more), unfolding(crate::specs::Settle::upto, crate::specs::Settle::round))]
 fn go_round<B: ReasoningBook>(book: &B, state: &mut Record) -> bool
     ensures after { view state.new ≡ round (B.Book.model book.now) (B.reasons book.now) (view state.old) }
     ensures answer { result ≡ not (length (view state.new).log == length (view state.old).log) }

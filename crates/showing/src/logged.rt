@@ -7,7 +7,8 @@ use terms::line::{Kind, Line};
 use terms::masks::has;
 use terms::scope::Scope;
 
-// The options of a mask, rising, each with its question.
+// The options of a mask, rising, each with its question. A loop over the options, here and in `Options`, as each is
+// written where it is found.
 #[derive(Clone, Copy)]
 struct Named {
     question: u8,
@@ -35,7 +36,8 @@ fn is_empty(reason: [u32; 4]) -> bool
     reason.iter().all(|mask| *mask == 0)
 }
 
-// The options that a reason names, with their questions; nothing for an empty reason.
+// The options that a reason names, with their questions; nothing for an empty reason. The questions are a scope's and the
+// masks a line's, which have them apart.
 #[derive(Clone, Copy)]
 pub struct Because {
     pub questions: [u8; 4],

@@ -5,7 +5,8 @@ ghost use Rattle.showing.specs.Texts.{overview_text};
 use crate::options::Options;
 use std::fmt;
 
-// The standing options of a sheet's questions, one group a question.
+// The standing options of a sheet's questions, one group a question: its sixteen masks by value, as a sheet answers them
+// without a heap, and how many questions there are.
 #[derive(Clone, Copy)]
 pub struct Overview {
     pub count: u8,

@@ -2,7 +2,9 @@
 use Rattle.std.specs.Prelude.{ℕ, List, [], ◌∷◌, Ok, Err, codes, Result}
 use Rattle.books.specs.Plain.{Plain}
 use Rattle.record.specs.State.{State}
+use Rattle.sheet.specs.Seen.{Seen}
 use Rattle.sheet.specs.Settle.{Reasons}
+use Rattle.telling.specs.declared.told.Told.{Told}
 use Rattle.calls.specs.Answers.{answer_of, after_call}
 use Rattle.calls.specs.Texts.{told_text}
 use Rattle.terms.specs.declared.call.Call.{Call}
@@ -10,12 +12,24 @@ use Rattle.lines.specs.Marks.{Noted}
 use Rattle.reading.specs.Plain.{Said, table, gap, differ, opens, call, Heard, says, wrong}
 use Rattle.reading.specs.Readings.{heard_of}
 use Rattle.reading.specs.Faults.{fault_text}
-use Rattle.sitting.specs.Tales.{Tale, answered, faulted}
+use Rattle.sitting.specs.Tales.{Tale, tale, answered, faulted}
 
 -- a sheet, and what was told so far
 pub record Scene : Type 0 where
   pub state : State
   pub tale : Tale
+
+-- the same of the code's values, with the book that the sheet is on
+pub record Played (B : Type 0) : Type 0 where
+  pub book : B
+  pub scene : Scene
+
+abbrev pub played : {B : Type 0} → Seen B → Told → Played B
+played s t = record { book = s.book; scene = record { state = s.state; tale = tale t } }
+
+-- where a scene goes on, the book stays
+abbrev pub going_on : {B : Type 0} → (Scene → Scene) → Played B → Played B
+going_on f p = record { book = p.book; scene = f p.scene }
 
 -- the call that a line says, or what is wrong with a line that says none
 abbrev pub closed_text : List ℕ

@@ -4,8 +4,7 @@ ghost use Rattle.reading.specs.Plain.{said};
 ghost use Rattle.reading.specs.Readings.{heard_of};
 ghost use Rattle.wording.specs.Figures.{both};
 ghost use Rattle.lines.specs.Marks.{noted};
-ghost use Rattle.sitting.specs.Tales.{tale};
-ghost use Rattle.sitting.specs.Scenes.{call_in, called, obeyed, all_obeyed};
+ghost use Rattle.sitting.specs.Scenes.{call_in, called, obeyed, all_obeyed, going_on, played};
 
 use books::book::{Book, ReasoningBook};
 use calls::make::make;
@@ -17,7 +16,8 @@ use std::alloc::AllocError;
 use telling::told::Told;
 use terms::call::Call;
 
-// The call that a command is, or what is wrong with one that is no call, now that a sheet is open.
+// The call that a command is, or what is wrong with one that is no call, now that a sheet is open: one match on what
+// was said, since a command carries what its case needs.
 fn call_of(command: &Command) -> Result<Call, &'static str>
     ensures { both (λ call. call) (λ text. text.now) result ≡ call_in (said command.now) }
 {
@@ -30,14 +30,15 @@ fn call_of(command: &Command) -> Result<Call, &'static str>
     }
 }
 
+// Makes the call that the command is. What is told and the sheet stay two parameters, here and below: a struct of both
+// would be made once, by `attend`, and taken apart in every line.
 fn obey<B: ReasoningBook>(
     told: &mut Told,
     sheet: &mut Sheet<'_, B>,
     entry: Entry<'_>,
     command: Command,
 ) -> Result<(), AllocError>
-    ensures scene { OnOk result (record { state = sheet.new.state; tale = tale told.new } ≡ called (B.Book.model sheet.old.book) (B.reasons sheet.old.book) (noted entry.entry) (call_in (said command)) (record { state = sheet.old.state; tale = tale told.old })) }
-    ensures book { sheet.new.book ≡ sheet.old.book }
+    ensures { OnOk result (played sheet.new told.new ≡ going_on (called (B.Book.model sheet.old.book) (B.reasons sheet.old.book) (noted entry.entry) (call_in (said command))) (played sheet.old told.old)) }
 {
     match call_of(&command) {
         Ok(call) => match make(sheet, call) {
@@ -54,8 +55,7 @@ fn obey_line<B: ReasoningBook>(
     sheet: &mut Sheet<'_, B>,
     entry: Entry<'_>,
 ) -> Result<(), AllocError>
-    ensures scene { OnOk result (record { state = sheet.new.state; tale = tale told.new } ≡ obeyed (B.Book.model sheet.old.book) (B.reasons sheet.old.book) (noted entry.entry) (heard_of entry.entry.text.now) (record { state = sheet.old.state; tale = tale told.old })) }
-    ensures book { sheet.new.book ≡ sheet.old.book }
+    ensures { OnOk result (played sheet.new told.new ≡ going_on (obeyed (B.Book.model sheet.old.book) (B.reasons sheet.old.book) (noted entry.entry) (heard_of entry.entry.text.now)) (played sheet.old told.old)) }
 {
     match read(*told.text.allocator(), entry.text)? {
         Ok(command) => obey(told, sheet, entry, command),
@@ -69,8 +69,7 @@ pub(crate) fn obey_all<B: ReasoningBook>(
     sheet: &mut Sheet<'_, B>,
     entries: &[Entry<'_>],
 ) -> Result<(), AllocError>
-    ensures scene { OnOk result (record { state = sheet.new.state; tale = tale told.new } ≡ all_obeyed (B.Book.model sheet.old.book) (B.reasons sheet.old.book) (map noted entries.now) (record { state = sheet.old.state; tale = tale told.old })) }
-    ensures book { sheet.new.book ≡ sheet.old.book }
+    ensures { OnOk result (played sheet.new told.new ≡ going_on (all_obeyed (B.Book.model sheet.old.book) (B.reasons sheet.old.book) (map noted entries.now)) (played sheet.old told.old)) }
 {
     for entry in entries {
         obey_line(told, sheet, *entry)?;

@@ -17,7 +17,8 @@ use std::alloc::AllocError;
 use telling::told::Told;
 use terms::refusal::Refusal;
 
-// The line that opens a sheet, with the sizes that it gives and the lines that follow it.
+// The line that opens a sheet, with the sizes that it gives and the lines that follow it. What is told is no part of it,
+// since it goes on to the sheet's calls without the rest.
 #[derive(Clone, Copy)]
 pub(crate) struct Opening<'e> {
     pub(crate) line: Entry<'e>,
@@ -65,6 +66,7 @@ fn open_on<B: ReasoningBook>(
 }
 
 // A refused book is a fault of the line that would open a sheet on it.
+#[tactic(auto, using(crate::proofs::TaleLaws::tale_faulted))]
 fn refuse(told: &mut Told, entry: Entry<'_>, refusal: Refusal) -> Result<bool, AllocError>
     ensures { IfOk result (λ done. record { done = done; tale = tale told.new } ≡ refused_book (noted entry.entry) refusal (tale told.old)) }
 {
@@ -73,6 +75,7 @@ fn refuse(told: &mut Told, entry: Entry<'_>, refusal: Refusal) -> Result<bool, A
 }
 
 // On two books as one. Their kinds are parameters, so that each pair lends from one lifetime.
+#[tactic(auto, using(crate::proofs::OpeningLaws::two_granted, crate::proofs::OpeningLaws::two_refused))]
 fn open_on_two<'a, F: ReasoningBook, S: ReasoningBook>(
     told: &mut Told,
     first: &'a F,
@@ -88,6 +91,7 @@ fn open_on_two<'a, F: ReasoningBook, S: ReasoningBook>(
 }
 
 // On three: the second and the third are a pair, and the first with that pair.
+#[tactic(auto, using(crate::proofs::OpeningLaws::three_granted, crate::proofs::OpeningLaws::three_refused))]
 fn open_on_three<'a, F: ReasoningBook, S: ReasoningBook, T: ReasoningBook>(
     told: &mut Told,
     first: &'a F,

@@ -14,7 +14,7 @@ use reading::parse::read;
 use std::alloc::{AllocError, Global};
 use telling::told::Told;
 
-// A line of the book; the calls have to wait for a sheet.
+// A line of the book; the calls have to wait for a sheet. One match on what was said, as each rule is noted in its own way.
 fn note(
     told: &mut Told,
     ledger: &mut Ledger,
@@ -65,6 +65,8 @@ fn take(
     }
 }
 
+// Takes the lines until one opens a sheet. They are counted to hand on those that follow: a loop that splits the first
+// off the rest did not prove.
 fn take_all(told: &mut Told, entries: &[Entry<'_>]) -> Result<(), AllocError>
     ensures { OnOk result (tale told.new ≡ lines_told no_rules (map noted entries.now) (tale told.old)) }
 {
@@ -78,6 +80,7 @@ fn take_all(told: &mut Told, entries: &[Entry<'_>]) -> Result<(), AllocError>
 }
 
 // What the sitting tells: an answer for every line that has a word, then how its sheet ended and why.
+#[tactic(auto, unfolding(crate::specs::Sittings::sitting_told))]
 pub fn run(heap: Global, text: &str) -> Result<Told, AllocError>
     ensures { IfOk result (λ told. tale told ≡ sitting_told text.now) }
 {

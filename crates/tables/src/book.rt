@@ -1,11 +1,12 @@
 // What a table book answers.
 ghost use Rattle.std.specs.Prelude.{◌≡◌};
-ghost use Rattle.tables.specs.Table.{table_at, table_model, table_reasons};
+ghost use Rattle.tables.specs.Table.{run, table_at, table_model, table_reasons};
 
 use crate::rows::Ask;
 use crate::table::{TableBook, TableRule};
 use books::book::{Book, Outlook, ReasoningBook, Seat};
 use books::owing::owed;
+use terms::lookup::item_or;
 use terms::scope::{NO_SCOPE, Scope};
 
 // A rule without questions and without rows.
@@ -20,10 +21,30 @@ impl TableBook<'_> {
     fn rule_at(&self, rule: u8) -> TableRule
         ensures { result ≡ table_at self.now.rules.now rule }
     {
-        self.rules
-            .get(usize::from(rule))
-            .copied()
-            .unwrap_or(NO_RULE)
+        item_or(self.rules, rule, NO_RULE)
+    }
+
+    // The rows of the rule's run.
+    #[tactic(auto, using(crate::proofs::TableLaws::run_within), unfolding(crate::specs::Table::run))]
+    fn run(&self, rule: u8) -> &[u32]
+        ensures { result.now ≡ run self.now.rows.now (table_at self.now.rules.now rule) }
+    {
+        let table = self.rule_at(rule);
+        let end = table.first + table.count;
+        &self.rows[table.first..end]
+    }
+
+    // What those rows are asked about the option in the seat.
+    #[tactic(auto, using(crate::proofs::TableLaws::count_within))]
+    fn ask(&self, seat: Seat) -> Ask
+        ensures count { result.count ≡ (table_at self.now.rules.now seat.rule).scope.count }
+        ensures seat { (result.position ≡ seat.position) × (result.option ≡ seat.option) }
+    {
+        Ask {
+            count: self.rule_at(seat.rule).scope.count,
+            position: seat.position,
+            option: seat.option,
+        }
     }
 }
 
@@ -40,18 +61,8 @@ impl Book for TableBook<'_> {
     }
 
     fn supports(&self, seat: Seat, masks: [u32; 4]) -> bool {
-        let table = self.rule_at(seat.rule);
-        if seat.position >= table.scope.count || seat.option > 31 {
-            return false;
-        }
-        let ask = Ask {
-            count: table.scope.count,
-            position: seat.position,
-            option: seat.option,
-        };
-        let first = table.first;
-        let end = first + table.count;
-        ask.supported(&self.rows[first..end], masks)
+        let ask = self.ask(seat);
+        seat.position < ask.count && seat.option < 32 && ask.supported(self.run(seat.rule), masks)
     }
 
     fn lawful(&self) {}
@@ -65,15 +76,7 @@ impl ReasoningBook for TableBook<'_> {
         if !owed(self, seat, outlook) {
             return [0; 4];
         }
-        let table = self.rule_at(seat.rule);
-        let ask = Ask {
-            count: table.scope.count,
-            position: seat.position,
-            option: seat.option,
-        };
-        let first = table.first;
-        let end = first + table.count;
-        ask.reason(&self.rows[first..end], outlook)
+        self.ask(seat).reason(self.run(seat.rule), outlook)
     }
 
     fn reasonable(&self) {}

@@ -62,7 +62,8 @@ impl Ask {
         }
     }
 
-    // Whether some row of the part has the option at the position and fits the masks elsewhere.
+    // Whether some row of the part has the option at the position and fits the masks elsewhere. That these are loops,
+    // left by a label at the first such row, is a rule of this project (docs/DECISIONS.md).
     pub fn supported(self, part: &[u32], masks: [u32; 4]) -> bool
         ensures { result ≡ some_row (row_supports self.count self.position self.option masks) part.now }
     {

@@ -24,7 +24,7 @@ impl Ties for TableRule {
     }
 }
 
-// All rules share one list of rows.
+// All rules share one lent list of rows, so that a book copies and holds nothing: a rule's rows are a run of it.
 #[derive(Clone, Copy)]
 pub struct TableBook<'a> {
     pub(crate) rows: &'a [u32],

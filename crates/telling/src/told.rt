@@ -7,7 +7,7 @@ use std::fmt;
 #[derive(Drop)]
 pub struct Told {
     pub text: String,
-    // Every line was read, and the book taken.
+    // Every line was read, and the book taken; there is a text in either case.
     pub sound: bool,
 }
 

@@ -1,6 +1,7 @@
 -- An array made by a call for each index. Assumes nothing.
-use Rattle.std.proofs.Common.{◌≡◌, ℕ, zero, suc, ◌+◌, ◌<◌, ◌≤◌, List, get_or, sym, ap, ◌∙◌, subst, inl, inr, arith}
+use Rattle.std.proofs.Common.{◌≡◌, ℕ, zero, suc, ◌+◌, ◌<◌, ◌≤◌, List, length, get_or, sym, ap, ◌∙◌, subst, inl, inr, arith}
 use Rattle.std.proofs.lemmas.Bool.{cases_eq}
+use Rattle.std.proofs.lemmas.List.{ext_get_or}
 use Rattle.std.specs.Array.{IsFromFnResult, IsFromFnResultFrom}
 use Rattle.std.specs.Fn.{Called, Mut}
 
@@ -18,6 +19,7 @@ module _ {F B : Type 0} (g : Mut F (ℕ × Unit {0}) B) (h : ℕ → B) (f : F) 
         | inr p ↦ made_at ys end (i + 1) n k d c (omega arith) (subst (λ x. IsFromFnResultFrom g x ys (i + 1) n) s.0 rest) (omega arith) (omega arith)
       ]
 
-  -- the array holds what h says at each index
-  pub from_fn_holds : (ys : List B) (n : ℕ) → IsFromFnResult g f ys n → Computes n → (k : ℕ) (d : B) → k < n → get_or ys k d ≡ h k
-  from_fn_holds ys n m c k d l = made_at ys n 0 n k d c (omega arith) m.each (omega arith) (omega arith)
+  -- the array is the list that holds what h says at each index
+  pub from_fn_is : (ys zs : List B) (n : ℕ) (d : B) → IsFromFnResult g f ys n → Computes n → length zs ≡ n → ((k : ℕ) → k < n → get_or zs k d ≡ h k) → ys ≡ zs
+  from_fn_is ys zs n d m c e at = ext_get_or d ys zs (m.long ∙ sym e)
+      (λ k l. let u : k < n = omega (arith, m.long) in made_at ys n 0 n k d c (omega arith) m.each (omega arith) (omega arith) ∙ sym (at k u))

@@ -1,28 +1,18 @@
 -- The lowest place at which a list passes a test, as a recursion and as the library's `position`. Assumes nothing.
-use Rattle.std.proofs.Common.{◌≡◌, ℕ, suc, ◌+◌, Bool, true, false, cond, not, ltb, List, [], ◌∷◌, length, Some, None, Option, sym, refl, ap, ◌∙◌, one-add, zero-add, arith}
-use Rattle.std.specs.List.{position, position_or_len}
+use Rattle.std.proofs.Common.{◌≡◌, ℕ, suc, Bool, true, false, cond, List, [], ◌∷◌, Some, None, Option, sym, refl, ap, ◌∙◌, add-one}
+use Rattle.std.specs.List.{position, position_from}
 use Rattle.std.specs.Option.{option_map}
-use Rattle.std.proofs.lemmas.Bool.{lt-ltb}
-use lib.Dec.{leb-suc-suc}
+use Rattle.std.proofs.lemmas.Iterator.Adapters.{position_from-zero}
 
 -- F counts the places from q, and answers `hit` of the first that passes p
 module _ {X R : Type 0} (p : X → Bool) (hit : ℕ → R) (F : ℕ → List X → Option R) (none : (q : ℕ) → F q [] ≡ None) (more : (q : ℕ) (x : X) (xs : List X) → F q (x ∷ xs) ≡ cond (p x) (Some (hit q)) (F (suc q) xs)) where
-  later : (b : Bool) (q n : ℕ) → option_map {T = ℕ} (λ k. hit (suc q + k)) (cond b (Some n) None) ≡ option_map (λ k. hit (q + k)) (cond b (Some (1 + n)) None)
-  later true q n = let e : suc q + n ≡ q + (1 + n) = omega arith in ap (λ k. Some (hit k)) e
-  later false q n = refl
+  step : (b : Bool) (q : ℕ) (rest : Option R) (o : Option ℕ) → rest ≡ option_map hit o → cond b (Some (hit q)) rest ≡ option_map hit (cond b (Some q) o)
+  step true q rest o e = refl
+  step false q rest o e = e
 
-  step : (b : Bool) (q n m : ℕ) (rest : Option R) → rest ≡ option_map (λ k. hit (suc q + k)) (cond (ltb n m) (Some n) None)
-      → cond b (Some (hit q)) rest ≡ option_map (λ k. hit (q + k)) (cond (ltb (cond (not b) (1 + n) 0) (suc m)) (Some (cond (not b) (1 + n) 0)) None)
-  step true q n m rest e = let z : q ≡ q + 0 = omega arith in ap (λ k. Some (hit k)) z ∙ ap (λ b. option_map (λ k. hit (q + k)) (cond b (Some 0) None)) (sym (lt-ltb 0 (suc m) (omega arith)))
-  step false q n m rest e = e ∙ later (ltb n m) q n ∙ ap (λ b. option_map (λ k. hit (q + k)) (cond b (Some (1 + n)) None)) (sym (ap (λ k. ltb k (suc m)) (one-add n) ∙ leb-suc-suc (suc n) m))
-
-  lowest_is : (q : ℕ) (xs : List X) → F q xs ≡ option_map (λ k. hit (q + k)) (position p xs)
-  lowest_is q [] = none q
-  lowest_is q (x ∷ xs) = more q x xs ∙ step (p x) q (position_or_len p xs) (length xs) _ (lowest_is (suc q) xs)
-
-  from_start : (o : Option ℕ) → option_map {T = ℕ} (λ k. hit (0 + k)) o ≡ option_map hit o
-  from_start None = refl
-  from_start (Some k) = ap (λ n. Some (hit n)) (zero-add k)
+  lowest_from : (q : ℕ) (xs : List X) → F q xs ≡ option_map hit (position_from p q xs)
+  lowest_from q [] = none q
+  lowest_from q (x ∷ xs) = more q x xs ∙ step (p x) q _ _ (lowest_from (suc q) xs ∙ ap (λ k. option_map hit (position_from p k xs)) (sym (add-one q)))
 
   pub lowest_of : (xs : List X) → F 0 xs ≡ option_map hit (position p xs)
-  lowest_of xs = lowest_is 0 xs ∙ from_start (position p xs)
+  lowest_of xs = lowest_from 0 xs ∙ ap (option_map hit) (sym (position_from-zero p xs))

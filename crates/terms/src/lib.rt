@@ -3,6 +3,7 @@
 
 pub mod call;
 pub mod line;
+pub mod lookup;
 pub mod masks;
 pub mod refusal;
 pub mod scope;

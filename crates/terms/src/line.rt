@@ -24,7 +24,8 @@ impl From<Kind> for u8 {
     }
 }
 
-// The kind stays a plain number here, since a line may come from anywhere, and another kind is told as a refusal.
+// The kind stays a plain number here, since a line may come from anywhere, and a reader of lines has to be able to refuse
+// another kind by its line, as refusal 21.
 // Fields that a kind does not use are 0; position j of the reason speaks of the question at position j of the rule.
 #[derive(Clone, Copy, Default)]
 pub struct Line {
@@ -35,7 +36,7 @@ pub struct Line {
     pub reason: [u32; 4],
 }
 
-// What a place holds that no line was written to.
+// What a place holds that no line was written to, as a constant, which `Line::default()` is not.
 pub const BLANK: Line = Line {
     kind: 0,
     rule: 0,

@@ -1,7 +1,8 @@
 // Sets of options as 32-bit masks: bit o is option o.
-ghost use Rattle.std.specs.Prelude.{◌≡◌};
+ghost use Rattle.std.specs.Prelude.{◌≡◌, slice_index};
 ghost use Rattle.terms.specs.Masks.{has, with, without, less, within, declared, declared_each, held, less_each, within_each, with_rule};
 
+use crate::lookup::item_or;
 use std::array;
 
 // Whether the mask holds the option; no mask holds a number above 31.
@@ -72,6 +73,13 @@ pub fn declared_each(count: u8, sizes: [u8; 16]) -> [u32; 16]
     })
 }
 
+// The mask of a question; nothing past the last of the sixteen.
+pub fn mask_of(masks: [u32; 16], question: u8) -> u32
+    ensures { result ≡ slice_index masks question }
+{
+    item_or(&masks, question, 0)
+}
+
 // What the masks of a sheet hold and the others do not, question by question.
 pub fn less_each(masks: [u32; 16], others: [u32; 16]) -> [u32; 16]
     ensures { result ≡ less_each masks others }
@@ -90,6 +98,7 @@ pub fn within_each(masks: [u32; 4], others: [u32; 4]) -> bool
 }
 
 // Whether a set of rules holds the rule: bit r is rule r.
+// A trait over the words of 32 and of 64 bits would say `has` and `with` once more in each impl, so they stay apart.
 pub fn has_rule(rules: u64, rule: u8) -> bool
     ensures { result ≡ has rules rule }
 {

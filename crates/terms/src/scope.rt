@@ -2,9 +2,11 @@
 ghost use Rattle.std.specs.Prelude.{◌≡◌};
 ghost use Rattle.terms.specs.Scopes.{mask_at, masks_at, questions_of};
 
+use crate::masks::mask_of;
 use std::array;
 
-// A count and four numbers, of which the first `count` are the questions.
+// A count and four numbers, of which the first `count` are the questions. It is handed in and noted by value, without
+// a heap, and its count may be any number, which a book refuses: so no vector, and no narrower type.
 #[derive(Clone, Copy)]
 pub struct Scope {
     pub count: u8,
@@ -31,7 +33,7 @@ pub fn mask_at(masks: [u32; 16], scope: Scope, position: usize) -> u32
     ensures { result ≡ mask_at masks scope position }
 {
     match scope.tied().get(position) {
-        Some(question) => masks.get(usize::from(*question)).copied().unwrap_or(0),
+        Some(question) => mask_of(masks, *question),
         None => 0,
     }
 }

@@ -3,8 +3,8 @@ use Rattle.std.proofs.lemmas.Grind.{common_steps}
 use Rattle.reading.proofs.Colons.{cut}
 use Rattle.reading.proofs.parse.table.Goals as goal
 
-pub returns-in_err-questions : goal.returns-in_err-questions
-returns-in_err-questions c =
+pub returns-in_err-scope : goal.returns-in_err-scope
+returns-in_err-scope c =
     let told = cut c.args.line.now c.split_once.result c.in_ok-before.before c.in_ok-before.after c.split_once.ensures.cases c.in_ok-before.ensures.ok_part in
     grind (arith, common_steps)
 

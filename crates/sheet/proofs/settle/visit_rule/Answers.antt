@@ -1,17 +1,13 @@
-use Rattle.std.proofs.Common.{◌≡◌, length, sym, refl, ap, ◌∙◌, arith, rules}
+use Rattle.std.proofs.Common.{◌≡◌, length, sym, ap, ◌∙◌, arith, rules}
 use Rattle.terms.specs.Masks.{has}
 use Rattle.terms.specs.Scopes.{positions_of}
 use Rattle.terms.proofs.ScopeLaws.{positions_is}
 use Rattle.record.specs.View.{view}
 use Rattle.sheet.specs.Settle.{upto, visit_position}
-use Rattle.sheet.proofs.Steps.{upto_more, rule_placed, rule_absent}
+use Rattle.sheet.proofs.Steps.{rule_placed}
 use Rattle.sheet.proofs.Later.{upto_later}
 use Rattle.sheet.proofs.Fixed.{visit_position_later}
 use Rattle.sheet.proofs.settle.visit_rule.Goals as goal
-
-pub loop-position-init : goal.loop-position-init
-unfolding upto
-loop-position-init g c = refl
 
 pub visit_position-requires : goal.visit_position-requires
 visit_position-requires g c =
@@ -20,14 +16,6 @@ visit_position-requires g c =
     let f = visit_position b why c.args.rule in
     ap (λ t. has t.placed c.args.rule) c.loop-position.invariant
     ∙ ap (λ n. has n c.args.rule) (upto_later f (visit_position_later b why c.args.rule) c.loop-position.position (view c.args.state.now)).placed ∙ sym c.if-not-is_placed.ensures
-
-pub loop-position-preserved : goal.loop-position-preserved
-loop-position-preserved g c =
-    let f = visit_position (g.B.Book.model c.args.book.now) (g.B.ReasoningBook.reasons c.args.book.now) c.args.rule in
-    c.visit_position.ensures ∙ ap (f c.loop-position.position) c.loop-position.invariant ∙ upto_more f c.loop-position.position (view c.args.state.now)
-
-pub returns-then-not-is_placed : goal.returns-then-not-is_placed
-returns-then-not-is_placed g c = rule_absent _ _ (view c.args.state.now) c.args.rule (sym c.if-not-is_placed.ensures)
 
 pub returns : goal.returns
 returns g c =

@@ -1,13 +1,9 @@
-use Rattle.std.proofs.Common.{◌≡◌, get_or, None, sym, refl, ap, ◌∙◌, arith}
+use Rattle.std.proofs.Common.{get_or, None, sym, ap, ◌∙◌}
 use Rattle.record.specs.View.{view}
-use Rattle.sheet.specs.Settle.{upto, pick_question, pick_lines}
+use Rattle.sheet.specs.Settle.{pick_question}
 use Rattle.sheet.proofs.Steps.{upto_more, question_picked, question_unpicked}
 use Rattle.sheet.proofs.settle.write_picks.Goals as goal
-use Rattle.sheet.proofs.settle.write_picks.Goals.{in-Some, in-None}
-
-pub loop-question-init : goal.loop-question-init
-unfolding upto
-loop-question-init c = refl
+use Rattle.sheet.proofs.settle.write_picks.Goals.{in-Some, in_default}
 
 pub loop-question-preserved : goal.loop-question-preserved
 unfolding view
@@ -20,14 +16,8 @@ loop-question-preserved c =
           ap view w.state-is ∙ w.cross_others.ensures
           ∙ question_picked q s w.in-Some.picked (ap (λ d. get_or d.picks q None) (sym c.docket.ensures) ∙ sym w.in-Some.ensures)
           ∙ ap (pick_question q) c.loop-question.invariant ∙ upto_more pick_question q start
-      | in-None w ↦
+      | in_default w ↦
           ap view w.state-is
-          ∙ question_unpicked q s (ap (λ d. get_or d.picks q None) (sym c.docket.ensures) ∙ sym w.in-None.ensures)
+          ∙ question_unpicked q s (ap (λ d. get_or d.picks q None) (sym c.docket.ensures) ∙ sym c.pick.ensures ∙ w.in_default.is)
           ∙ ap (pick_question q) c.loop-question.invariant ∙ upto_more pick_question q start
     ]
-
-pub returns : goal.returns
-unfolding pick_lines
-returns c =
-    let e : c.loop-question.question ≡ 16 = omega arith in
-    c.loop-question.invariant ∙ ap (λ n. upto pick_question n (view c.args.state.now)) e

@@ -1,6 +1,5 @@
 use Rattle.std.proofs.Common.{◌≡◌, ◌<◌, ltb, length, get_or, sym, ap, ◌∙◌, subst, arith}
 use Rattle.std.proofs.lemmas.Bool.{cond-false}
-use Rattle.std.specs.Option.{unwrap_or}
 use Rattle.terms.specs.Scopes.{mask_at, positions_of}
 use Rattle.terms.proofs.ScopeLaws.{mask_here}
 use Rattle.terms.proofs.scope.mask_at.Goals as goal
@@ -10,8 +9,8 @@ returns-in-Some c =
     let l : c.args.position < length c.tied.result.now = c.in-Some.ensures.lookup.3.0 in
     let here : c.in-Some.question.now ≡ get_or c.tied.result.now c.args.position 0 = c.in-Some.ensures.lookup.4 (omega arith) 0 in
     let past : c.args.position < positions_of c.args.scope = subst (λ qs. c.args.position < length qs) c.tied.ensures l in
-    c.unwrap_or.ensures ∙ ap (λ o. unwrap_or o 0) c.copied.ensures ∙ c.get-in-Some.ensures.lookup.4 (omega arith) 0
-    ∙ ap (λ q. get_or c.args.masks q 0) (c.from.ensures ∙ here ∙ ap (λ qs. get_or qs c.args.position 0) c.tied.ensures)
+    c.mask_of.ensures
+    ∙ ap (λ q. get_or c.args.masks q 0) (here ∙ ap (λ qs. get_or qs c.args.position 0) c.tied.ensures)
     ∙ sym (mask_here c.args.masks c.args.scope c.args.position past)
 
 pub returns-in-None : goal.returns-in-None

@@ -23,18 +23,3 @@ invariant_of-self c =
     let four : length c.args.line.now.reason ≡ 4 = search rules in
     let k = kept c.args.self.now c.args.line.now four (sym c.if-not-admits.ensures) c.with.result _ c.with.ensures c.push.ensures.items in
     record { rules = k.rules; questions = k.questions; heads = k.heads; declared = k.declared; once = k.once; backed = k.backed; counted = k.counted }
-
-pub returns : goal.returns
-unfolding pushed view
-returns c = record {
-  answer = c.if-not-admits.ensures;
-  after = λ i. record {
-    count = c.args.self.now.docket.count;
-    sizes = c.args.self.now.docket.sizes;
-    picks = c.args.self.now.docket.picks;
-    placed = c.args.self.now.docket.placed;
-    scopes = c.args.self.now.scopes;
-    crossed = set c.args.self.now.crossed c.args.line.now.question (c.with.ensures i);
-    log = c.push.ensures.items i;
-  };
-}

@@ -20,20 +20,3 @@ invariant_of-result c =
       backed = subst (Backed _ _) e (λ k j x. implying _ _ (λ e. absurd (both_ways _ (unreasoned j x) e)));
       counted = total_none 16 ∙ ap length e;
     }
-
-pub returns : goal.returns
-unfolding view opened
-returns c =
-    let d = c.in_ok-unpicked.ensures in
-    record {
-      answer = d.answer;
-      state = λ i. record {
-        count = d.value.count i;
-        sizes = d.value.sizes i;
-        picks = d.value.picks i;
-        placed = d.value.placed i;
-        scopes = replicate 64 unscoped;
-        crossed = replicate 16 0;
-        log = c.new.ensures i;
-      };
-    }
