@@ -1,5 +1,6 @@
 // The rules gathered for a book, each kind in the order written.
-ghost use Rattle.std.specs.Prelude.{◌≡◌, [], ◌∷◌, ◌++◌, length, is_ok, if◌then◌else◌, vec_len, IfOk, OnOk};
+ghost use Rattle.std.specs.Prelude.{◌≡◌, [], ◌∷◌, ◌++◌, length, is_ok, if◌then◌else◌, vec_len, Ok, IfOk, OnOk};
+ghost use Rattle.std.specs.Option.{option_map};
 ghost use Rattle.terms.specs.Refusals.{told};
 ghost use Rattle.ledger.specs.Ledgers.{renumber, ledger_fault};
 
@@ -79,6 +80,7 @@ impl Ledger {
     }
 
     // The books of what was gathered. Tables are numbered first, then gaps, then differs, and so is a refusal.
+    #[tactic(auto, unfolding(gaps::specs::Gap::gap_fault, differs::specs::Differ::differ_fault, tables::specs::Table::table_model, books::specs::Twos::two_model))]
     pub fn books(&self) -> Result<Books<'_>, Refusal>
         ensures answer { told result ≡ ledger_fault self.now.rows.items self.now.tables.items self.now.gaps.items self.now.differs.items }
         ensures rows { IfOk result (λ books. books.tables.rows.now ≡ self.now.rows.items) }
@@ -88,15 +90,23 @@ impl Ledger {
     {
         let tables = TableBook::new(&self.rows, &self.tables)?;
         let before = tables.rules();
-        let gaps = GapBook::new(&self.gaps).map_err(|fault| renumbered(fault, before))?;
+        let gaps = numbered(GapBook::new(&self.gaps), before)?;
         let before = before.saturating_add(gaps.rules());
-        let differs = DifferBook::new(&self.differs).map_err(|fault| renumbered(fault, before))?;
+        let differs = numbered(DifferBook::new(&self.differs), before)?;
         Ok(Books {
             tables,
             gaps,
             differs,
         })
     }
+}
+
+// A part of the book, or its refusal, numbered as in the whole.
+fn numbered<T>(part: Result<T, Refusal>, before: u8) -> Result<T, Refusal>
+    ensures answer { told result ≡ option_map (renumber before) (told part) }
+    ensures part { IfOk result (λ t. part ≡ Ok t) }
+{
+    part.map_err(|fault| renumbered(fault, before))
 }
 
 // The refusal of a part of the book, with its rule numbered as in the whole.

@@ -1,2 +1,1 @@
 mod Samples
-mod Unnamed
