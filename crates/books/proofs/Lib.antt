@@ -1,3 +1,4 @@
+pub mod Conjunctions
 pub mod OwingLaws
 pub mod PairLaws
 pub mod QuestionLaws

@@ -1,18 +1,19 @@
 -- Books whose rules tie two questions keep the laws of books and of reasons. Assumes nothing.
-use Rattle.std.proofs.Common.{◌≡◌, ℕ, zero, suc, ◌+◌, ◌-◌, ◌<◌, ◌≤◌, Bool, true, false, cond, not, ◌&&◌, ◌||◌, eqb, ltb, ◌⊎◌, List, [], ◌∷◌, map, length, is_some, Option, get_or, sym, refl, ap, ◌∙◌, subst, inl, inr, not-suc-le-zero, add-one, add-zero, arith}
+use Rattle.std.proofs.Common.{◌≡◌, ℕ, zero, suc, ◌+◌, ◌-◌, ◌^◌, ◌<◌, ◌≤◌, Bool, true, false, cond, not, ◌&&◌, ◌||◌, eqb, ltb, ◌⊎◌, List, [], ◌∷◌, map, length, is_some, Option, get_or, sym, refl, ap, ◌∙◌, subst, inl, inr, not-suc-le-zero, add-one, add-zero, arith}
 use Rattle.std.specs.List.{AllByRecursion as All, list_any, range_with_len}
 use Rattle.std.proofs.ByRecursion.{All-get_or, All-map}
 use Rattle.std.proofs.lemmas.List.{get_or_past, get_or-map, length-map}
-use Rattle.std.proofs.lemmas.Bool.{and_parts, and_from, or_cases, or_right, or_left, both_ways, cases_Bool, cases_eq, cases_lt, lt-ltb, le-ltb, ltb-true, eq-eqb, ne_eqb, not-true, and_left, and_right}
+use Rattle.std.proofs.lemmas.Bool.{and_parts, and_from, or_cases, or_right, or_left, both_ways, cases_Bool, cases_eq, cases_lt, lt-ltb, le-ltb, ltb-true, eq-eqb, ne_eqb, not-true, or_from, and_left, and_right}
 use Rattle.terms.specs.Masks.{has, with, less_each, within_each}
 use Rattle.terms.specs.Scopes.{questions_of}
 use Rattle.terms.specs.declared.scope.Scope.{Scope}
-use Rattle.terms.proofs.MaskLaws.{has-with, has_none}
+use Rattle.terms.proofs.MaskLaws.{has-with, has_none, with_lt}
 use Rattle.books.specs.Plain.{Supported, Lawful, no_scope}
 use Rattle.terms.specs.declared.refusal.Refusal.{Refusal}
 use Rattle.books.specs.Questions.{fits, rules_fault, first_fault}
 use Rattle.books.specs.Reasons.{owed, no_reason, Explains, Reasonable}
 use Rattle.books.specs.Twos.{some_below, kept_below, beside, opposite, two_model, two_reasons, pairs_at, rules_model, rules_reasons, two_fault}
+use Rattle.books.proofs.Conjunctions.{fails}
 use Rattle.books.proofs.OwingLaws.{has-less_each}
 use Rattle.books.proofs.QuestionLaws.{fits_parts, tied, faultless, no_fault}
 
@@ -105,6 +106,15 @@ has_kept test (suc n) m x h =
     same_side : (n ≡ x → ⊥) → ltb x n ≡ ltb x (suc n)
     same_side apart = elim (cases_lt x n) [ inl l ↦ lt-ltb x n l ∙ sym (lt-ltb x (suc n) (omega arith)) | inr l ↦ le-ltb x n l ∙ sym (le-ltb x (suc n) (omega arith)) ]
 
+pub kept_lt : (test : ℕ → Bool) (n m : ℕ) → kept_below test n m < 2 ^ 32
+unfolding kept_below
+kept_lt test zero m = omega arith
+kept_lt test (suc n) m = at (has m n && test n) (kept_lt test n m)
+  where
+    at : (b : Bool) → kept_below test n m < 2 ^ 32 → cond b (with (kept_below test n m) n) (kept_below test n m) < 2 ^ 32
+    at true h = with_lt (kept_below test n m) n h
+    at false h = h
+
 at_most : (P : ℕ → Type 0) (x y : ℕ) → P x → P y → (j : ℕ) → j < 2 → P (get_or (x ∷ y ∷ []) j 0)
 at_most P x y px py zero h = px
 at_most P x y px py (suc zero) h = py
@@ -129,6 +139,18 @@ module _ (scopes : List Scope) (pairs : ℕ → ℕ → ℕ → Bool) where
   whole r p o masks h l k =
       let S = some_below (beside (pairs r) p o) 32 (get_or masks (1 - p) 0) in
       ap (λ b. b && (ltb p 2 && (ltb o 32 && S))) (lt-ltb r (length scopes) h) ∙ ap (λ b. b && (ltb o 32 && S)) (lt-ltb p 2 l) ∙ ap (λ b. b && S) (lt-ltb o 32 k)
+
+  pub no_rule_two : (r p o : ℕ) (masks : List ℕ) → length scopes ≤ r → false ≡ (two_model scopes pairs).supports r p o masks
+  unfolding two_model
+  no_rule_two r p o masks h = fails (ltb r (length scopes)) _ (le-ltb r (length scopes) h)
+
+  pub no_option_two : (r p o : ℕ) (masks : List ℕ) → 32 ≤ o → false ≡ (two_model scopes pairs).supports r p o masks
+  unfolding two_model
+  no_option_two r p o masks h = sym (and_right (ltb r (length scopes)) _ (and_right (ltb p 2) _ (and_left (ltb o 32) _ (le-ltb o 32 h))))
+
+  pub no_position_two : (r p o : ℕ) (masks : List ℕ) → 2 ≤ p → false ≡ (two_model scopes pairs).supports r p o masks
+  unfolding two_model
+  no_position_two r p o masks h = sym (and_right (ltb r (length scopes)) _ (and_left (ltb p 2) _ (le-ltb p 2 h)))
 
   pub reason_owed : (r p o : ℕ) (declared standing : List ℕ) → true ≡ owed (two_model scopes pairs) r p o declared standing → two_reasons scopes pairs r p o declared standing ≡ opposite p (kept_below (beside (pairs r) p o) 32 (get_or declared (1 - p) 0))
   unfolding two_reasons
@@ -302,6 +324,24 @@ module _ (scopes : List Scope) (pairs : ℕ → ℕ → ℕ → Bool) (fit : All
             subst (Explains (two_model scopes pairs) r p o declared standing) (sym (reason_owed scopes pairs r p o declared standing (sym e))) (two_explains r p o declared standing e);
         otherwise = λ r p o declared standing e. reason_not_owed scopes pairs r p o declared standing (sym e);
       }
+
+-- equal tests find and keep the same
+pub same_some : (f g : ℕ → Bool) → ((x : ℕ) → f x ≡ g x) → (n m : ℕ) → some_below f n m ≡ some_below g n m
+unfolding some_below
+same_some f g e zero m = refl
+same_some f g e (suc n) m =
+    some_more f n m ∙ ap (λ b. (has m n && b) || some_below f n m) (e n) ∙ ap (λ b. (has m n && g n) || b) (same_some f g e n m) ∙ sym (some_more g n m)
+
+pub same_kept : (f g : ℕ → Bool) → ((x : ℕ) → f x ≡ g x) → (n m : ℕ) → kept_below f n m ≡ kept_below g n m
+unfolding kept_below
+same_kept f g e zero m = refl
+same_kept f g e (suc n) m =
+    ap (λ b. cond (has m n && b) (with (kept_below f n m) n) (kept_below f n m)) (e n) ∙ ap (λ k. cond (has m n && g n) (with k n) k) (same_kept f g e n m)
+
+-- one option more found wanting
+pub none_more : (test : ℕ → Bool) (n m : ℕ) → some_below test n m ≡ false → (has m n ≡ false) ⊎ (test n ≡ false) → some_below test (n + 1) m ≡ false
+none_more test n m e f =
+    ap (λ k. some_below test k m) (add-one n) ∙ some_more test n m ∙ or_from (has m n && test n) (some_below test n m) (elim f [ inl g ↦ and_left (has m n) (test n) g | inr g ↦ and_right (has m n) (test n) g ]) e
 
 -- the questions of a rule of a book
 pub scope_in : {R : Type 0} (ties : R → Scope) (pairs : R → ℕ → ℕ → Bool) (none : R) (rules : List R) (r : ℕ) → ties none ≡ no_scope → ties (get_or rules r none) ≡ (rules_model ties pairs none rules).scope r

@@ -7,11 +7,11 @@ use Rattle.lines.specs.Marks.{before, after, pieces_from}
 abbrev pub Lacks : ℕ → List ℕ → Type 0
 Lacks m xs = (i : ℕ) → i < length xs → get_or xs i 0 ≡ m → ⊥
 
-later : (m b : ℕ) (bs : List ℕ) → Lacks m (b ∷ bs) → Lacks m bs
+pub later : (m b : ℕ) (bs : List ℕ) → Lacks m (b ∷ bs) → Lacks m bs
 later m b bs none i h e = none (suc i) (omega arith) e
 
 -- the first byte of a text that lacks m
-other : (m b : ℕ) (bs : List ℕ) → Lacks m (b ∷ bs) → eqb b m ≡ false
+pub other : (m b : ℕ) (bs : List ℕ) → Lacks m (b ∷ bs) → eqb b m ≡ false
 other m b bs none = ne_eqb b m (λ e. none 0 (omega arith) e)
 
 pub before_none : (m : ℕ) (xs : List ℕ) → Lacks m xs → before m xs ≡ xs
@@ -37,6 +37,19 @@ after_split m (b ∷ bs) ys none = grind (arith, other m b bs none, after_split 
 -- a step of the pieces, by its test
 abbrev pub pieces_by : ℕ → List ℕ → ℕ → List ℕ → Bool → List (List ℕ)
 pieces_by m p b bs t = elim t [ true ↦ p ∷ pieces_from m [] bs | false ↦ pieces_from m (p ++ b ∷ []) bs ]
+
+pub pieces_none : (m : ℕ) (p xs : List ℕ) → Lacks m xs → pieces_from m p xs ≡ (p ++ xs) ∷ []
+unfolding pieces_from
+pieces_none m p [] none = ap (λ (l : List ℕ). l ∷ []) (sym (append-nil p))
+pieces_none m p (b ∷ bs) none =
+    ap (pieces_by m p b bs) (other m b bs none) ∙ pieces_none m (p ++ b ∷ []) bs (later m b bs none) ∙ ap (λ (l : List ℕ). l ∷ []) (append_assoc p (b ∷ []) bs)
+
+pub pieces_split : (m : ℕ) (p xs ys : List ℕ) → Lacks m xs → pieces_from m p (xs ++ (m ∷ ys)) ≡ (p ++ xs) ∷ pieces_from m [] ys
+unfolding pieces_from
+pieces_split m p [] ys none = ap (pieces_by m p m ys) (eq-eqb m m refl) ∙ ap (λ (l : List ℕ). l ∷ pieces_from m [] ys) (sym (append-nil p))
+pieces_split m p (b ∷ bs) ys none =
+    ap (pieces_by m p b (bs ++ (m ∷ ys))) (other m b bs none) ∙ pieces_split m (p ++ b ∷ []) bs ys (later m b bs none)
+    ∙ ap (λ (l : List ℕ). l ∷ pieces_from m [] ys) (append_assoc p (b ∷ []) bs)
 
 -- a piece goes on from what it has so far
 abbrev onto : List ℕ → List (List ℕ) → List (List ℕ)

@@ -36,6 +36,10 @@ pick_question_later q s = go (get_or s.picks q None)
     go None = later_same s
     go (Some x) = upto_later (cross_other q x) (cross_other_later q x) 32 s
 
+pub pick_lines_later : (s : State) → Later s (pick_lines s)
+unfolding pick_lines
+pick_lines_later s = upto_later pick_question pick_question_later 16 s
+
 module _ (b : Plain) (why : Reasons) where
   pub visit_option_later : (r p o : ℕ) (s : State) → Later s (visit_option b why r p o s)
   unfolding visit_option

@@ -1,8 +1,8 @@
 -- What masks hold, for everything above: no proof outside these two files opens a power of two. Assumes nothing.
-use Rattle.std.proofs.Common.{◌≡◌, ℕ, zero, suc, ◌+◌, ◌-◌, ◌/◌, ◌%◌, ◌^◌, ◌<◌, ◌≤◌, min, Bool, true, false, cond, not, ◌&&◌, ◌||◌, eqb, ltb, List, [], ◌∷◌, length, get_or, zip, sym, refl, ap, ◌∙◌, subst, ap₂, inl, inr, mod-eq_of_lt, pow-suc, one-add, arith, pow_pos}
-use lib.Bits.{bit_and, bit_or, bit_xor, xor_lt, and_le_l, and_zero_r, and_zero_l, xor_zero_r}
+use Rattle.std.proofs.Common.{◌≡◌, ℕ, zero, suc, ◌+◌, ◌-◌, ◌/◌, ◌%◌, ◌^◌, ◌<◌, ◌≤◌, min, Bool, true, false, cond, not, ◌&&◌, ◌||◌, eqb, ltb, List, [], ◌∷◌, length, get_or, set, replicate, zip, sym, refl, ap, ◌∙◌, subst, ap₂, inl, inr, le_of_suc-le-suc, not-suc-le-zero, mod-eq_of_lt, pow-suc, one-add, arith, pow_pos, pow_mono}
+use lib.Bits.{bit_and, bit_or, bit_xor, or_lt, xor_lt, and_le_l, and_zero_r, and_zero_l, xor_zero_r}
 use lib.Dec.{leb-suc-suc}
-use lib.Pow.{mod-pow-add}
+use lib.Pow.{pow-lt, mod-pow-add}
 use lib.Count.{ones, ones-le, ones_cat, ones-ones}
 use Rattle.std.specs.List.{list_all}
 use Rattle.std.proofs.Math.Bool.{and-true}
@@ -10,10 +10,17 @@ use Rattle.std.proofs.lemmas.Nat.{mod_below}
 use Rattle.std.proofs.lemmas.Bool.{eqb-true, eq-eqb, lt-ltb, le-ltb, cond-true, cases_lt, and_parts, and_from, or_left}
 use Rattle.std.proofs.lemmas.Bool.Decides.{nat_tests}
 use Rattle.terms.specs.Masks.{has, with, without, less, within, declared, held, held_below, declared_each, less_each, within_each, with_rule}
-use Rattle.terms.proofs.Bits.{has-and, has-or, has-xor, has-pow, has-ones, has-zero, has_rest, has_shifted, same_bits}
+use Rattle.terms.proofs.Bits.{has-and, has-or, has-xor, has-pow, has-ones, has_high, has-zero, has_rest, has_shifted, same_bits}
 
 pub has_none : (o : ℕ) → has 0 o ≡ false
 has_none = has-zero
+
+-- a mask of 32 bits holds only options
+pub has_below : (m o : ℕ) → m < 2 ^ 32 → has m o ≡ true → o < 32
+has_below m o h e = elim (cases_lt o 32) [ inl l ↦ l | inr l ↦ absurd (never (has_high 32 m o h l)) ]
+  where
+    never : has m o ≡ false → ⊥
+    never f = let z : true ≡ false = sym e ∙ f in subst (λ b. elim b as (λ _. Type 0) [ true ↦ Unit {0} | false ↦ ⊥ ]) z tt
 
 pub has-with : (m o p : ℕ) → o < 32 → has (with m o) p ≡ (has m p || eqb o p)
 unfolding with
@@ -46,9 +53,17 @@ with_keeps m o p e = elim (cases_lt o 32) [
   | inr l ↦ ap (λ b. has (cond b (bit_or m (2 ^ o)) m) p) (le-ltb o 32 l) ∙ e
 ]
 
+pub with_lt : (m o : ℕ) → m < 2 ^ 32 → with m o < 2 ^ 32
+unfolding with
+with_lt m o h = elim (cases_lt o 32) [ inl l ↦ subst (λ x. x < 2 ^ 32) (sym (cond-true _ _ _ (lt-ltb o 32 l))) (or_lt 32 m (2 ^ o) h (pow-lt l)) | inr l ↦ subst (λ b. cond b (bit_or m (2 ^ o)) m < 2 ^ 32) (sym (le-ltb o 32 l)) h ]
+
 pub less_lt : (m n : ℕ) → m < 2 ^ 32 → less m n < 2 ^ 32
 unfolding less
 less_lt m n h = xor_lt 32 m (bit_and m n) h (omega (arith, and_le_l m n))
+
+pub declared_lt : (n : ℕ) → declared n < 2 ^ 32
+unfolding declared
+declared_lt n = let l : min n 32 ≤ 32 = omega arith in let p : 2 ^ min n 32 ≤ 2 ^ 32 = pow_mono {j = 32} l in omega (arith, pow_pos (min n 32))
 
 -- two masks that hold the same are the same
 pub same_masks : (a b : ℕ) → a < 2 ^ 32 → b < 2 ^ 32 → ((o : ℕ) → o < 32 → has a o ≡ has b o) → a ≡ b
@@ -149,6 +164,27 @@ length-declared_each n [] = refl
 length-declared_each zero (s ∷ ss) = ap suc (length-declared_each zero ss)
 length-declared_each (suc n) (s ∷ ss) = ap suc (length-declared_each n ss)
 
+pub declared_none : (ss : List ℕ) → declared_each 0 ss ≡ replicate (length ss) 0
+unfolding declared_each
+declared_none [] = refl
+declared_none (s ∷ ss) = ap (λ ms. 0 ∷ ms) (declared_none ss)
+
+-- one question more
+pub declared_more : (q : ℕ) (ss : List ℕ) → q < length ss → set (declared_each q ss) q (declared (get_or ss q 0)) ≡ declared_each (suc q) ss
+unfolding declared_each
+declared_more q [] h = absurd (not-suc-le-zero h)
+declared_more zero (s ∷ ss) h = refl
+declared_more (suc q) (s ∷ ss) h = ap (λ ms. declared s ∷ ms) (declared_more q ss (le_of_suc-le-suc h))
+
+-- a count past the last size declares no more
+pub declared_past : (ss : List ℕ) (m n : ℕ) → min (length ss) n ≤ m → m ≤ n → declared_each m ss ≡ declared_each n ss
+unfolding declared_each
+declared_past [] m n h l = refl
+declared_past (s ∷ ss) zero zero h l = refl
+declared_past (s ∷ ss) zero (suc n) h l = absurd (omega arith)
+declared_past (s ∷ ss) (suc m) zero h l = absurd (omega arith)
+declared_past (s ∷ ss) (suc m) (suc n) h l = ap (λ ms. declared s ∷ ms) (declared_past ss m n (omega arith) (omega arith))
+
 -- the mask at a question: what its size declares, and nothing from n up
 pub get_or-declared_each : (n : ℕ) (ss : List ℕ) (k : ℕ) → get_or (declared_each n ss) k 0 ≡ cond (ltb k n) (declared (get_or ss k 0)) 0
 unfolding declared_each declared
@@ -217,3 +253,7 @@ unfolding within_each
 within_each_zip (a ∷ b ∷ c ∷ d ∷ []) (e ∷ f ∷ g ∷ h ∷ []) l m =
     ap (λ t. within a e && (within b f && (within c g && t))) (and-true (within d h))
 within_each_zip _ _ l m = absurd (omega arith)
+
+-- a set of 64 bits holds only rules
+pub has_past_rules : (rs r : ℕ) → rs < 2 ^ 64 → 64 ≤ r → has rs r ≡ false
+has_past_rules rs r = has_high 64 rs r
