@@ -1,4 +1,6 @@
 // The cases that are run, on the books and sheets themselves.
+ghost use Rattle.std.specs.Prelude.{◌≡◌, ◌≤◌, length};
+
 use books::book::{Outlook, ReasoningBook, Seat};
 use books::pair::Pair;
 use differs::differ::DifferBook;
@@ -8,7 +10,7 @@ use sitting::run::run as run_sitting;
 use std::process::Abort;
 use std::test::Fail;
 use tables::table::{TableBook, TableRule};
-use terms::line::BLANK;
+use terms::line::{BLANK, LOG_LINES};
 use terms::refusal::Refusal;
 use terms::scope::Scope;
 use wording::numbers::numbers;
@@ -200,6 +202,43 @@ fn the_sample_settles_as_it_was_counted(rt: HostRuntime) -> Result<(), Fail> {
     let gap = granted(GapBook::new(&gaps))?;
     let differ = granted(DifferBook::new(&differs))?;
     paired(&rt, &table, &gap, &differ)
+}
+
+// How many lines the log has, by a copy of it into 512: that it is refused is proved never to happen, of any sheet.
+fn line_count<B: ReasoningBook>(sheet: &Sheet<'_, B>) -> usize
+    ensures { result ≡ length sheet.now.state.log }
+{
+    let mut lines = [BLANK; LOG_LINES];
+    match sheet.copy_log(&mut lines) {
+        Ok(count) => count,
+        Err(_) => unreachable(),
+    }
+}
+
+fn four_from(first: u8) -> TableRule
+    requires { first ≤ 12 }
+{
+    TableRule {
+        scope: Scope {
+            count: 4,
+            questions: [first, first + 1, first + 2, first + 3],
+        },
+        first: 0,
+        count: 0,
+    }
+}
+
+#[test]
+fn a_log_of_every_option_fits_512_lines(rt: HostRuntime) -> Result<(), Fail> {
+    let rules = [four_from(0), four_from(4), four_from(8), four_from(12)];
+    let book = granted(TableBook::new(&[], &rules))?;
+    let mut sheet = granted(Sheet::open(&book, &[32; 16]))?;
+    for rule in 0..4u8 {
+        assert_eq!(rt; refused(sheet.place(rule)), None);
+    }
+    sheet.settle();
+    assert_eq!(rt; line_count(&sheet), 512);
+    Ok(())
 }
 
 // Words are read as numbers, up to the first that writes none.

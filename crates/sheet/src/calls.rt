@@ -1,7 +1,8 @@
 // Opening a sheet, noting rules and picks, and reading what stands.
-ghost use Rattle.std.specs.Prelude.{◌≡◌, length, IfOk, slice_index};
+ghost use Rattle.std.specs.Prelude.{◌≡◌, ◌≤◌, length, None, IfOk, slice_index};
 ghost use Rattle.record.specs.Told.{told, unless};
 ghost use Rattle.record.specs.Calls.{open_fault, opened, noted_rule, pick_fault, noted_pick, standing_each, overlaid, copy_fault};
+ghost use Rattle.record.specs.Sound.{Sound};
 ghost use Rattle.sheet.specs.Calls.{rule_fault, question_fault};
 ghost use Rattle.sheet.specs.Valid.{Valid};
 
@@ -79,19 +80,25 @@ impl<'a, B: ReasoningBook> Sheet<'a, B> {
         self.state.docket()
     }
 
-    // The log, from its first line.
+    // The log, from its first line. What is true of every sheet at all times is said here, where a caller can ask for it
+    // of any: a clause sees no record, whose facts these are.
+    #[tactic(auto, using(record::proofs::RecordLaws::sound_of), unfolding(record::specs::View::view))]
     pub fn log(&self) -> &[Line]
-        ensures { result.now ≡ self.now.state.log }
+        ensures lines { result.now ≡ self.now.state.log }
+        ensures sound { Sound self.now.state }
+        ensures scopes { length self.now.state.scopes ≡ 64 }
     {
         self.state.log()
     }
 
     // Copies the log into the caller's lines and answers how many there are; too few places get the first lines that fit.
-    // For a caller who keeps the lines while the sheet goes on; who only reads them is lent `log`.
+    // For a caller who keeps the lines while the sheet goes on; who only reads them is lent `log`. 512 places always do.
+    #[tactic(auto, using(record::proofs::LogLaws::fits_all))]
     pub fn copy_log(&self, lines: &mut [Line]) -> Result<usize, Refusal>
         ensures answer { told result ≡ copy_fault self.now.state.log lines.old }
         ensures count { IfOk result (λ n. n ≡ length self.now.state.log) }
         ensures buffer { lines.new ≡ overlaid self.now.state.log lines.old }
+        ensures room { 512 ≤ length lines.old → told result ≡ None }
     {
         self.state.copy_log(lines)
     }

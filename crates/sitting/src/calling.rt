@@ -38,7 +38,8 @@ fn obey<B: ReasoningBook>(
     entry: Entry<'_>,
     command: Command,
 ) -> Result<(), AllocError>
-    ensures { OnOk result (played sheet.new told.new ≡ going_on (called (B.Book.model sheet.old.book) (B.reasons sheet.old.book) (noted entry.entry) (call_in (said command))) (played sheet.old told.old)) }
+    ensures scene { OnOk result (played sheet.new told.new ≡ going_on (called (B.Book.model sheet.old.book) (B.reasons sheet.old.book) (noted entry.entry) (call_in (said command))) (played sheet.old told.old)) }
+    ensures book { sheet.new.book ≡ sheet.old.book }
 {
     match call_of(&command) {
         Ok(call) => match make(sheet, call) {
@@ -55,7 +56,8 @@ fn obey_line<B: ReasoningBook>(
     sheet: &mut Sheet<'_, B>,
     entry: Entry<'_>,
 ) -> Result<(), AllocError>
-    ensures { OnOk result (played sheet.new told.new ≡ going_on (obeyed (B.Book.model sheet.old.book) (B.reasons sheet.old.book) (noted entry.entry) (heard_of entry.entry.text.now)) (played sheet.old told.old)) }
+    ensures scene { OnOk result (played sheet.new told.new ≡ going_on (obeyed (B.Book.model sheet.old.book) (B.reasons sheet.old.book) (noted entry.entry) (heard_of entry.entry.text.now)) (played sheet.old told.old)) }
+    ensures book { sheet.new.book ≡ sheet.old.book }
 {
     match read(*told.text.allocator(), entry.text)? {
         Ok(command) => obey(told, sheet, entry, command),
@@ -69,7 +71,8 @@ pub(crate) fn obey_all<B: ReasoningBook>(
     sheet: &mut Sheet<'_, B>,
     entries: &[Entry<'_>],
 ) -> Result<(), AllocError>
-    ensures { OnOk result (played sheet.new told.new ≡ going_on (all_obeyed (B.Book.model sheet.old.book) (B.reasons sheet.old.book) (map noted entries.now)) (played sheet.old told.old)) }
+    ensures scene { OnOk result (played sheet.new told.new ≡ going_on (all_obeyed (B.Book.model sheet.old.book) (B.reasons sheet.old.book) (map noted entries.now)) (played sheet.old told.old)) }
+    ensures book { sheet.new.book ≡ sheet.old.book }
 {
     for entry in entries {
         obey_line(told, sheet, *entry)?;

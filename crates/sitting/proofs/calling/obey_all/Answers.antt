@@ -15,10 +15,10 @@ loop-entry-preserved g c =
     let entry = get_or entries i no_entry in
     let now = played c.loop-entry.sheet c.loop-entry.told in
     ap (going_on (all_obeyed b why (map noted (drop (i + 1) entries))))
-    (c.in_ok-obey_line.ensures ∙ (λ k. going_on (obeyed (g.B.Book.model (same k)) (g.B.ReasoningBook.reasons (same k)) (noted entry) (heard_of entry.text.now)) now))
+    (c.in_ok-obey_line.ensures.scene ∙ (λ k. going_on (obeyed (g.B.Book.model (same k)) (g.B.ReasoningBook.reasons (same k)) (noted entry) (heard_of entry.text.now)) now))
     ∙ ap (λ scene. record { book = c.loop-entry.sheet.book; scene = scene }) (sym (obeyed_more b why entries i now.scene c.loop-entry-test.true))
     ∙ c.loop-entry.invariant
 
-pub returns : goal.returns
-returns g c =
+pub returns-clause-scene : goal.returns-clause-scene
+returns-clause-scene g c =
     ap (λ scene. record { book = c.loop-entry.sheet.book; scene = scene }) (sym (obeyed_all _ _ _ _ _ c.loop-entry-test.false)) ∙ c.loop-entry.invariant

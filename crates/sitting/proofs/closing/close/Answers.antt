@@ -11,4 +11,4 @@ unfolding closing_told
 returns g c =
     let told = tale_answered c.args.told.now c.answer.new.self (codes "closing overview") (answer_text c.overview.result) c.in_ok-answer.ensures.text c.answer.ensures.sound in
     let opened = told ∙ ap (λ a. answered (codes "closing overview") (answer_text a) (tale c.args.told.now)) c.overview.ensures in
-    IfOk-weaker c.tell_log.result _ _ (λ x e. e ∙ (λ i. log_told (g.B.Book.model c.args.book.now) 0 (c.log.ensures i) (opened i))) c.tell_log.ensures
+    IfOk-weaker c.tell_log.result _ _ (λ x e. e ∙ (λ i. log_told (g.B.Book.model c.args.book.now) 0 (c.log.ensures.lines i) (opened i))) c.tell_log.ensures
