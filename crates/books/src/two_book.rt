@@ -72,11 +72,12 @@ fn beside<R: TwoRule>(rule: &R, seat: Seat, x: u8) -> bool
     }
 }
 
-// Whether the mask holds an option that goes with that of the seat.
+// Whether the mask holds an option that goes with that of the seat. Which options go with it is asked first: along the
+// options it turns once or twice, where a mask may turn at each.
 fn has_partner<R: TwoRule>(rule: &R, seat: Seat, mask: u32) -> bool
     ensures { result ≡ some_below (beside (R.pairs rule.now) seat.position seat.option) 32 mask }
 {
-    (0..32u8).any(|x| has(mask, x) && beside(rule, seat, x))
+    (0..32u8).any(|x| beside(rule, seat, x) && has(mask, x))
 }
 
 // The options of the mask that go with that of the seat. A loop over the options: what `filter` and `fold` do to a mask

@@ -10,7 +10,7 @@ ghost use Rattle.reading.specs.Tables.{row_of, rows_of, table_of};
 use crate::command::{Command, with_numbers};
 use crate::fault::{Fault, Unread, Wrong};
 use crate::numbers::{number, numbers};
-use crate::scopes::{count_of, first_four, scope_in, scope_of};
+use crate::scopes::{scope_in, scope_of};
 use lines::words::words;
 use std::alloc::{AllocError, Global};
 use wording::numbers::written;
@@ -129,9 +129,9 @@ fn row<'a>(heap: Global, text: &'a str, count: u8, number: usize) -> Result<u32,
     ensures { Comes (λ n. n) result (row_of count number text.now) }
 {
     let words = words(heap, text)?;
-    let options = numbers(heap, words.as_slice())?;
-    if count_of(options.as_slice()) != count {
+    let options = scope_in(words.as_slice())?;
+    if options.count != count {
         return Err(Unread::Wrong(Wrong::RowLength { row: number }));
     }
-    Ok(u32::from_le_bytes(first_four(options.as_slice())))
+    Ok(u32::from_le_bytes(options.questions))
 }

@@ -1,15 +1,14 @@
 // A scope, and a row, of the numbers that were written.
-ghost use Rattle.std.specs.Prelude.{◌≡◌, slice_index};
+ghost use Rattle.std.specs.Prelude.{◌≡◌, slice_set};
 ghost use Rattle.wording.specs.Figures.{both};
 ghost use Rattle.lines.specs.Marks.{texts};
 ghost use Rattle.reading.specs.Commands.{numbers_of};
 ghost use Rattle.reading.specs.Plain.{mistake};
-ghost use Rattle.reading.specs.Scopes.{count_of, first_four, numbers_in, scope_of};
+ghost use Rattle.reading.specs.Scopes.{count_of, first_four, scope_of};
 
 use crate::fault::Wrong;
 use crate::numbers::number;
 use terms::scope::Scope;
-use wording::numbers::written;
 
 // How many there are; 255 where there are more.
 #[tactic(auto, unfolding(crate::specs::Scopes::count_of))]
@@ -27,36 +26,29 @@ pub(crate) fn first_four(numbers: &[u8]) -> [u8; 4]
     std::array::from_fn(|i| numbers.get(i).copied().unwrap_or(0))
 }
 
-// The number that the word at the index writes; 0 where none is, or it writes none.
-#[tactic(auto, using(crate::proofs::Words::number_here, crate::proofs::Words::number_past))]
-fn number_at(words: &[&str], index: usize) -> u8
-    ensures { result ≡ slice_index (numbers_in (texts words.now)) index }
+// Puts the question at its place among the four; one past them changes nothing.
+fn note(questions: &mut [u8; 4], place: usize, question: u8)
+    ensures { questions.new ≡ slice_set questions.old place question }
 {
-    match words.get(index) {
-        Some(word) => written(word).unwrap_or(0),
-        None => 0,
+    if place < 4 {
+        questions[place] = question;
     }
 }
 
-// The first four of them, in the same way.
-#[tactic(auto, unfolding(crate::specs::Scopes::first_four))]
-fn first_four_in(words: &[&str]) -> [u8; 4]
-    ensures { result ≡ first_four (numbers_in (texts words.now)) }
-{
-    std::array::from_fn(|i| number_at(words, i))
-}
-
-// The questions that the words write, however many, or the first word that writes no number. It asks for no memory.
-#[tactic(auto, unfolding(wording::specs::Figures::numbers_after))]
+// The questions that the words write, however many, or the first word that writes no number. It asks for no memory, and
+// reads each word once.
+#[tactic(auto, using(crate::proofs::Words::noted_next), unfolding(wording::specs::Figures::numbers_after, crate::specs::Scopes::first_four))]
 pub fn scope_in<'a>(words: &[&'a str]) -> Result<Scope, Wrong<'a>>
     ensures { both (λ s. s) mistake result ≡ both scope_of (λ m. m) (numbers_of (texts words.now)) }
 {
-    for word in words {
-        let _ = number(word)?;
+    let mut questions = [0; 4];
+    for (place, word) in words.iter().enumerate() {
+        let question = number(word)?;
+        note(&mut questions, place, question);
     }
     Ok(Scope {
         count: count_of(words),
-        questions: first_four_in(words),
+        questions,
     })
 }
 
